@@ -1,0 +1,1 @@
+// f32 and half patterns, by integers alone.
