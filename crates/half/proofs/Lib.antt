@@ -1,0 +1,11 @@
+pub mod Closest
+pub mod Sizes
+pub mod Rounding
+pub mod Signs
+pub mod ToNearest
+pub mod Conversion
+pub mod Monotone
+pub mod Half
+pub mod Single
+pub mod Library
+pub mod Marked

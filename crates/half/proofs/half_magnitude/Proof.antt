@@ -1,0 +1,165 @@
+-- `half::half_magnitude` meets its contract. From 2 ^ -14 up 13 of the 24 digits are dropped, below it as many as leave units of 2 ^ -24, and
+-- under 2 ^ -25 the fraction of a unit is less than a half. Assumes nothing.
+use borrow.Author.Needs.{needs}
+use mathlib.Core.Path.{_≡_, sym, ap, _∙_, subst}
+use mathlib.Core.Logic.{inl, inr}
+use native.Mathlib.Omega.{arith}
+use Prim.Native.Nat.{ℕ, _+_, _-_, _*_, _/_, _%_, _^_, _≤_, _<_, min}
+use native.Mathlib.Nat.{le-trans, lt-of-lt-of-le, mul-assoc, one-mul, mul-le-mul-left, min-eq-left, min-eq-right, mul-lt-mul-of-pos-right}
+use lib.Dec.{lit≤}
+use lib.Pow.{pow-pos, pow-mono, pow-add, shl-exact}
+use lib.Ieee.Nearest.{closest}
+use Rattle.half.specs.Format.{f16, f32, fields, units, pattern, rounded, magnitudeOf}
+use Rattle.half.specs.Convert.{convertedMagnitude}
+use Rattle.half.proofs.Closest.{split, closest-range, closest-add}
+use Rattle.half.proofs.Sizes.{pattern-up-to, pattern-small, units-full, units-lt}
+use Rattle.half.proofs.Rounding.{rounded-drop, rounded-keep, rounded-none}
+use Rattle.half.proofs.Conversion.{finite-is, infinite-is}
+use Rattle.half.proofs.half_magnitude.Statement.{statement}
+use Rattle.half.proofs.half_magnitude.Tie as tie
+
+-- the digits of a normal f32, the leading one with them
+abbrev digits : ℕ → ℕ
+digits m = m % 0x80_0000 + 0x80_0000
+
+-- they and the power of two behind them, in a half's units over 2 ^ 149
+lead : (m : ℕ) → 0x80_0000 ≤ m → units f32 m * 2 ^ 24 ≡ digits m * 2 ^ (m / 0x80_0000 - 1 + 24)
+lead m h =
+    let t = digits m in
+    let k = m / 0x80_0000 - 1 in
+    ap (λ (u : ℕ). u * 2 ^ 24) (ap (units f32) (joined m h) ∙ units-full f32 k t (omega arith) (omega arith))
+    ∙ mul-assoc t (2 ^ k) (2 ^ 24)
+    ∙ ap (λ (u : ℕ). t * u) (sym (pow-add 2 k 24))
+  where
+    joined : (m : ℕ) → 0x80_0000 ≤ m → m ≡ (m / 0x80_0000 - 1) * 0x80_0000 + digits m
+    joined m h = omega arith
+
+module _ (m : ℕ) where
+  kept-range : (0x400 ≤ closest (digits m) 8192) × (closest (digits m) 8192 ≤ 0x800)
+  kept-range = closest-range (digits m) 8192 0x400 0x800 (omega arith) (omega arith) (omega arith)
+
+  dropped-13 : 0x3880_0000 ≤ m → pattern f16 (rounded f16 (units f32 m * 2 ^ 24) (2 ^ 149)) ≡ closest (m - 0x3800_0000) 8192
+  dropped-13 h =
+      let e = m / 0x80_0000 in
+      let t = digits m in
+      ap (λ (u : ℕ). pattern f16 (rounded f16 u (2 ^ 149))) (lead m (omega arith))
+      ∙ ap (pattern f16) (rounded-drop f16 13 t (e - 1 + 24) 149 (e - 113) (omega arith) (omega arith) (moved e (omega arith)))
+      ∙ pattern-up-to f16 (e - 113) (closest t 8192) (kept-range .0) (kept-range .1)
+      ∙ ap (λ (x : ℕ). x + closest t 8192) (twice (e - 113))
+      ∙ sym (closest-add ((e - 113) * 512) t 8192 (omega arith))
+      ∙ ap (λ (x : ℕ). closest x 8192) (joined m h)
+    where
+      moved : (e : ℕ) → 113 ≤ e → e - 1 + 24 + 13 ≡ 149 + (e - 113)
+      moved e h = omega arith
+
+      twice : (x : ℕ) → x * 1024 ≡ x * 512 * 2
+      twice x = omega arith
+
+      joined : (m : ℕ) → 0x3880_0000 ≤ m → (m / 0x80_0000 - 113) * 512 * 2 * 8192 + digits m ≡ m - 0x3800_0000
+      joined m h = omega arith
+
+  normal : 0x3880_0000 ≤ m → m < 0x4780_0000 → closest (m - 0x3800_0000) 8192 ≡ convertedMagnitude f32 f16 m
+  unfolding magnitudeOf
+  normal h k =
+      let q : closest (m - 0x3800_0000) 8192 ≤ 0x7c00 = closest-range (m - 0x3800_0000) 8192 0 0x7c00 (omega arith) (omega arith) (omega arith) .1 in
+      sym (finite-is f32 f16 m (omega arith) ∙ ap (λ (x : ℕ). min x 0x7c00) (dropped-13 h) ∙ min-eq-left q)
+
+  big : 0x4780_0000 ≤ m → 0x7c00 ≡ convertedMagnitude f32 f16 m
+  unfolding magnitudeOf
+  big h =
+      elim (split m 0x7f80_0000) [
+        | inr g ↦ sym (infinite-is f32 f16 m g)
+        | inl l ↦
+            let q : 0x7c00 ≤ closest (m - 0x3800_0000) 8192 = closest-range (m - 0x3800_0000) 8192 0x7c00 0x10_0000 (omega arith) (omega arith) (omega arith) .0 in
+            sym (finite-is f32 f16 m l ∙ ap (λ (x : ℕ). min x 0x7c00) (dropped-13 (omega arith)) ∙ min-eq-right q)
+      ]
+
+  subnormal : 0x3300_0000 ≤ m → m < 0x3880_0000 → closest (digits m) (2 ^ (126 - m / 0x80_0000)) ≡ convertedMagnitude f32 f16 m
+  unfolding magnitudeOf
+  subnormal h k =
+      let e = m / 0x80_0000 in
+      let t = digits m in
+      let s = 126 - e in
+      let q : closest t (2 ^ s) ≤ 0x800 = closest-range t (2 ^ s) 0 0x800 (pow-pos s) (omega arith) (lt-of-lt-of-le below (le-trans (lit≤ tt) (mul-le-mul-left 0x800 (pow-mono {i = 13} {j = s} (omega arith))))) .1 in
+      sym
+      (finite-is f32 f16 m (omega arith)
+      ∙ ap (λ (u : ℕ). min (pattern f16 (rounded f16 u (2 ^ 149))) 0x7c00) (lead m (omega arith))
+      ∙ ap (λ (u : ℕ). min (pattern f16 u) 0x7c00) (rounded-keep f16 t (e - 1 + 24) 149 s (lt-of-lt-of-le below (pow-mono {i = 24} {j = 11 + s} (omega arith))) (moved e (omega arith) (omega arith)))
+      ∙ ap (λ (x : ℕ). min x 0x7c00) (pattern-small f16 (closest t (2 ^ s)) q)
+      ∙ min-eq-left (le-trans q (lit≤ tt)))
+    where
+      below : digits m < 2 ^ 24
+      below = omega arith
+
+      moved : (e : ℕ) → 1 ≤ e → e ≤ 126 → e - 1 + 24 + (126 - e) ≡ 149
+      moved e h k = omega arith
+
+  tiny : m < 0x3300_0000 → 0 ≡ convertedMagnitude f32 f16 m
+  unfolding magnitudeOf fields
+  tiny h =
+      sym
+      (finite-is f32 f16 m (omega arith)
+      ∙ ap (λ (u : ℕ). min (pattern f16 u) 0x7c00) (rounded-none f16 (units f32 m * 2 ^ 24) (2 ^ 149) (lt-of-lt-of-le (mul-lt-mul-of-pos-right (mul-lt-mul-of-pos-right (units-lt f32 m 0x3300_0000 h) (pow-pos 24)) (omega arith)) (lit≤ tt)))
+      ∙ ap (λ (x : ℕ). min x 0x7c00) (pattern-small f16 0 (omega arith)))
+
+-- 1 << s
+module _ (m : ℕ) (h : 0x3300_0000 ≤ m) where
+  shifted : (1 * 2 ^ (126 - m / 0x80_0000)) % 2 ^ 32 ≡ 2 ^ (126 - m / 0x80_0000)
+  shifted = shl-exact 1 (126 - m / 0x80_0000) 32 (omega arith) (omega arith) ∙ one-mul (2 ^ (126 - m / 0x80_0000))
+
+  shifted-most : 2 ^ (126 - m / 0x80_0000) ≤ 0x0100_0000
+  shifted-most = le-trans (pow-mono {i = 126 - m / 0x80_0000} {j = 24} (omega arith)) (lit≤ tt)
+
+sub-nearest-div : tie.Need-sub-nearest-div
+sub-nearest-div c = search needs
+
+nearest-div-requires : tie.Need-nearest-div-requires
+nearest-div-requires c κs = search needs
+
+add-nearest-div : tie.Need-add-nearest-div
+add-nearest-div c = search needs
+
+sub-nearest-div-2 : tie.Need-sub-nearest-div-2
+sub-nearest-div-2 c = search needs
+
+shl-nearest-div : tie.Need-shl-nearest-div
+shl-nearest-div c = search needs
+
+nearest-div-requires-2 : tie.Need-nearest-div-requires-2
+nearest-div-requires-2 c κs =
+    let m = c .before .before .before .args .m in
+    let h : 0x3300_0000 ≤ m = omega arith in (
+      omega arith,
+      subst (λ (d : ℕ). 0 < d) (sym (shifted m h)) (pow-pos (126 - m / 0x80_0000)),
+      subst (λ (d : ℕ). d ≤ 0x0100_0000) (sym (shifted m h)) (shifted-most m h),
+    )
+
+returns : tie.Need-returns
+returns c = big _ (c .if1 .taken)
+
+returns-2 : tie.Need-returns-2
+returns-2 c = c .nearest-div .ensures ∙ normal _ (c .before .if2 .taken) (c .before .before .if1 .left)
+
+returns-3 : tie.Need-returns-3
+returns-3 c =
+    let m = c .before .before .before .before .args .m in
+    let h : 0x3300_0000 ≤ m = omega arith in
+    c .nearest-div2 .ensures ∙ ap (closest (digits m)) (shifted m h) ∙ subnormal m h (omega arith)
+
+returns-4 : tie.Need-returns-4
+returns-4 c = tiny (c .before .before .before .args .m) (omega arith)
+
+pub half-magnitude-spec : {M : Type 1} → statement M
+half-magnitude-spec =
+    tie.close
+    (tie.spec
+    sub-nearest-div
+    nearest-div-requires
+    add-nearest-div
+    sub-nearest-div-2
+    shl-nearest-div
+    nearest-div-requires-2
+    returns
+    returns-2
+    returns-3
+    returns-4)

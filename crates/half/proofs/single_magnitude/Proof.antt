@@ -1,0 +1,142 @@
+-- `half::single_magnitude` meets its contract: the magnitude that it returns has the half's size, and no other has. Assumes nothing.
+use borrow.Author.Needs.{needs}
+use mathlib.Core.Path.{_≡_, refl, sym, ap, _∙_}
+use native.Mathlib.Omega.{arith}
+use Prim.Native.Nat.{ℕ, suc, _+_, _-_, _*_, _/_, _%_, _^_, _≤_, _<_}
+use native.Mathlib.Nat.{le-trans, le-of-eq, lt-of-lt-of-le, lt-of-not-le, not-le-of-lt, mul-assoc, mul-le-mul-right, mul-lt-mul-of-pos-right}
+use lib.Dec.{lit≤}
+use lib.Pow.{pow-pos, pow-mono, pow-add, shl-exact}
+use lib.Count.{leadingZeros, leading-top}
+use Rattle.half.specs.Format.{f16, f32, fields, units}
+use Rattle.half.specs.Convert.{convertedMagnitude}
+use Rattle.half.proofs.Sizes.{units-small, units-full, units-inj}
+use Rattle.half.proofs.Conversion.{widened, infinite-is}
+use Rattle.half.proofs.Single.{widens}
+use Rattle.half.proofs.single_magnitude.Statement.{statement}
+use Rattle.half.proofs.single_magnitude.Tie as tie
+
+of-size : (m r : ℕ) → m < 0x7c00 → units f32 r ≡ units f16 m * 2 ^ 125 → r ≡ convertedMagnitude f16 f32 m
+of-size m r h e = units-inj f32 r (convertedMagnitude f16 f32 m) (e ∙ sym (widened f16 f32 widens m h .1))
+
+normal : (m : ℕ) → 0x400 ≤ m → m < 0x7c00 → m * 8192 + 0x3800_0000 ≡ convertedMagnitude f16 f32 m
+normal m h l =
+    let e = m / 0x400 in
+    let t = 0x400 + m % 0x400 in
+    of-size m (m * 8192 + 0x3800_0000) l
+    (ap (units f32) (wide m h)
+    ∙ units-full f32 (e + 111) (t * 2 ^ 13) (omega arith) (omega arith)
+    ∙ mul-assoc t (2 ^ 13) (2 ^ (e + 111))
+    ∙ ap (λ (x : ℕ). t * x) (sym (pow-add 2 13 (e + 111)) ∙ ap (λ (x : ℕ). 2 ^ x) (moved e (omega arith)) ∙ pow-add 2 (e - 1) 125)
+    ∙ sym (mul-assoc t (2 ^ (e - 1)) (2 ^ 125))
+    ∙ ap (λ (x : ℕ). x * 2 ^ 125) (sym (ap (units f16) (joined m h) ∙ units-full f16 (e - 1) t (omega arith) (omega arith))))
+  where
+    wide : (m : ℕ) → 0x400 ≤ m → m * 8192 + 0x3800_0000 ≡ (m / 0x400 + 111) * 0x80_0000 + (0x400 + m % 0x400) * 8192
+    wide m h = omega arith
+
+    joined : (m : ℕ) → 0x400 ≤ m → m ≡ (m / 0x400 - 1) * 0x400 + (0x400 + m % 0x400)
+    joined m h = omega arith
+
+    moved : (e : ℕ) → 1 ≤ e → 13 + (e + 111) ≡ e - 1 + 125
+    moved e h = omega arith
+
+nought : (m : ℕ) → m ≡ 0 → 0 ≡ convertedMagnitude f16 f32 m
+unfolding fields
+nought m e = of-size 0 0 (omega arith) refl ∙ ap (convertedMagnitude f16 f32) (sym e)
+
+-- ---- a subnormal half: l zeros stand in front of its digits, and l - 8 places bring the first one to the leading place
+record Leading (m l : ℕ) : Type 0 where
+  least : 22 ≤ l
+  most : l ≤ 31
+  low : 0x80_0000 ≤ m * 2 ^ (l - 8)
+  high : m * 2 ^ (l - 8) < 0x0100_0000
+  shifted : (m * 2 ^ (l - 8)) % 2 ^ 32 ≡ m * 2 ^ (l - 8)
+
+leading : (m : ℕ) → (m ≡ 0 → ⊥) → m < 0x400 → Leading m (leadingZeros 32 m)
+leading m n h =
+    let l = leadingZeros 32 m in
+    let r = leading-top 32 m (some m n) (lt-of-lt-of-le h (lit≤ tt)) in
+    let j = r .0 in
+    let few : j < 10 = lt-of-not-le (λ (g : 10 ≤ j). not-le-of-lt (lt-of-lt-of-le h (pow-mono g)) (r .2)) in
+    let z : l + suc j ≡ 32 = r .1 in
+    record {
+      least = omega arith;
+      most = omega arith;
+      low = le-trans (le-of-eq (ap (λ (x : ℕ). 2 ^ x) (first l j z few) ∙ pow-add 2 j (l - 8))) (mul-le-mul-right (2 ^ (l - 8)) (r .2));
+      high = lt-of-lt-of-le (mul-lt-mul-of-pos-right (r .3) (pow-pos (l - 8))) (le-of-eq (sym (pow-add 2 (suc j) (l - 8)) ∙ ap (λ (x : ℕ). 2 ^ x) (past l j z few)));
+      shifted = shl-exact (suc j) (l - 8) 32 (r .3) (omega arith);
+    }
+  where
+    some : (m : ℕ) → (m ≡ 0 → ⊥) → 0 < m
+    some m n = omega arith
+
+    first : (l j : ℕ) → l + suc j ≡ 32 → j < 10 → 23 ≡ j + (l - 8)
+    first l j e h = omega arith
+
+    past : (l j : ℕ) → l + suc j ≡ 32 → j < 10 → suc j + (l - 8) ≡ 24
+    past l j e h = omega arith
+
+subnormal : (m l : ℕ) → m < 0x400 → Leading m l → (133 - l) * 0x80_0000 + m * 2 ^ (l - 8) ≡ convertedMagnitude f16 f32 m
+subnormal m l h d =
+    of-size m ((133 - l) * 0x80_0000 + m * 2 ^ (l - 8)) (omega arith)
+    (units-full f32 (133 - l) (m * 2 ^ (l - 8)) (d .low) (omega (arith, d .high))
+    ∙ mul-assoc m (2 ^ (l - 8)) (2 ^ (133 - l))
+    ∙ ap (λ (x : ℕ). m * x) (sym (pow-add 2 (l - 8) (133 - l)) ∙ ap (λ (x : ℕ). 2 ^ x) (sum l (d .least) (d .most)))
+    ∙ ap (λ (x : ℕ). x * 2 ^ 125) (sym (units-small f16 m h)))
+  where
+    sum : (l : ℕ) → 22 ≤ l → l ≤ 31 → l - 8 + (133 - l) ≡ 125
+    sum l h k = omega arith
+
+digits : (c : tie.Else3) → Leading (c .before .before .before .args .m) (leadingZeros 32 (c .before .before .before .args .m))
+digits c = leading (c .before .before .before .args .m) (c .if3 .left) (c .before .if2 .left)
+
+mul-result : tie.Need-mul-result
+mul-result c = search needs
+
+add-result : tie.Need-add-result
+add-result c = search needs
+
+sub-result : tie.Need-sub-result
+sub-result c = omega (arith, digits c .most)
+
+mul-result-2 : tie.Need-mul-result-2
+mul-result-2 c = search needs
+
+sub-result-2 : tie.Need-sub-result-2
+sub-result-2 c = omega (arith, digits c .least)
+
+shl-result : tie.Need-shl-result
+shl-result c = omega (arith, digits c .most)
+
+add-result-2 : tie.Need-add-result-2
+add-result-2 c = omega (arith, digits c .shifted, digits c .high, digits c .least)
+
+returns : tie.Need-returns
+returns c = sym (infinite-is f16 f32 _ (c .if1 .taken))
+
+returns-2 : tie.Need-returns-2
+returns-2 c = normal _ (c .if2 .taken) (c .before .if1 .left)
+
+returns-3 : tie.Need-returns-3
+returns-3 c = nought _ (c .if3 .taken)
+
+returns-4 : tie.Need-returns-4
+returns-4 c =
+    let m = c .before .before .before .args .m in
+    let l = leadingZeros 32 m in
+    ap (λ (x : ℕ). (133 - l) * 0x80_0000 + x) (digits c .shifted) ∙ subnormal m l (c .before .if2 .left) (digits c)
+
+pub single-magnitude-spec : {M : Type 1} → statement M
+single-magnitude-spec =
+    tie.close
+    (tie.spec
+    mul-result
+    add-result
+    sub-result
+    mul-result-2
+    sub-result-2
+    shl-result
+    add-result-2
+    returns
+    returns-2
+    returns-3
+    returns-4)
