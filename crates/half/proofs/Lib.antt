@@ -3,6 +3,7 @@ pub mod Sizes
 pub mod Rounding
 pub mod Signs
 pub mod ToNearest
+pub mod Leading
 pub mod Conversion
 pub mod Monotone
 pub mod Half

@@ -6,7 +6,7 @@ ghost use Rattle.half.specs.Format.{f16, f32};
 ghost use Rattle.half.specs.Convert.{convertedMagnitude, halfOf, singleOf};
 
 // t / d to the nearest whole number, a tie to the even one: an odd quotient goes up from the tie on, an even one past it.
-fn nearest_div(t: u32, d: u32) -> u32
+pub fn nearest_div(t: u32, d: u32) -> u32
     requires { ⌜ (t < 0x8000_0000) × (0 < d) × (d ≤ 0x0100_0000) ⌝ }
     ensures { λ r. ⌜ r ≡ closest t d ⌝ }
 {

@@ -2,15 +2,16 @@
 use borrow.Author.Needs.{needs}
 use mathlib.Core.Path.{_≡_, refl, sym, ap, _∙_}
 use native.Mathlib.Omega.{arith}
-use Prim.Native.Nat.{ℕ, suc, _+_, _-_, _*_, _/_, _%_, _^_, _≤_, _<_}
-use native.Mathlib.Nat.{le-trans, le-of-eq, lt-of-lt-of-le, lt-of-not-le, not-le-of-lt, mul-assoc, mul-le-mul-right, mul-lt-mul-of-pos-right}
+use Prim.Native.Nat.{ℕ, _+_, _-_, _*_, _/_, _%_, _^_, _≤_, _<_}
+use native.Mathlib.Nat.{mul-assoc}
 use lib.Dec.{lit≤}
-use lib.Pow.{pow-pos, pow-mono, pow-add, shl-exact}
-use lib.Count.{leadingZeros, leading-top}
+use lib.Pow.{pow-add}
+use lib.Count.{leadingZeros}
 use Rattle.half.specs.Format.{f16, f32, fields, units}
 use Rattle.half.specs.Convert.{convertedMagnitude}
 use Rattle.half.proofs.Sizes.{units-small, units-full, units-inj}
 use Rattle.half.proofs.Conversion.{widened, infinite-is}
+use Rattle.half.proofs.Leading.{zeros, Leading, leading}
 use Rattle.half.proofs.Single.{widens}
 use Rattle.half.proofs.single_magnitude.Statement.{statement}
 use Rattle.half.proofs.single_magnitude.Tie as tie
@@ -44,41 +45,22 @@ unfolding fields
 nought m e = of-size 0 0 (omega arith) refl ∙ ap (convertedMagnitude f16 f32) (sym e)
 
 -- ---- a subnormal half: l zeros stand in front of its digits, and l - 8 places bring the first one to the leading place
-record Leading (m l : ℕ) : Type 0 where
+record Digits (m l : ℕ) : Type 0 where
   least : 22 ≤ l
   most : l ≤ 31
-  low : 0x80_0000 ≤ m * 2 ^ (l - 8)
-  high : m * 2 ^ (l - 8) < 0x0100_0000
-  shifted : (m * 2 ^ (l - 8)) % 2 ^ 32 ≡ m * 2 ^ (l - 8)
+  led : Leading 23 m (l - 8)
 
-leading : (m : ℕ) → (m ≡ 0 → ⊥) → m < 0x400 → Leading m (leadingZeros 32 m)
-leading m n h =
-    let l = leadingZeros 32 m in
-    let r = leading-top 32 m (some m n) (lt-of-lt-of-le h (lit≤ tt)) in
-    let j = r .0 in
-    let few : j < 10 = lt-of-not-le (λ (g : 10 ≤ j). not-le-of-lt (lt-of-lt-of-le h (pow-mono g)) (r .2)) in
-    let z : l + suc j ≡ 32 = r .1 in
-    record {
-      least = omega arith;
-      most = omega arith;
-      low = le-trans (le-of-eq (ap (λ (x : ℕ). 2 ^ x) (first l j z few) ∙ pow-add 2 j (l - 8))) (mul-le-mul-right (2 ^ (l - 8)) (r .2));
-      high = lt-of-lt-of-le (mul-lt-mul-of-pos-right (r .3) (pow-pos (l - 8))) (le-of-eq (sym (pow-add 2 (suc j) (l - 8)) ∙ ap (λ (x : ℕ). 2 ^ x) (past l j z few)));
-      shifted = shl-exact (suc j) (l - 8) 32 (r .3) (omega arith);
-    }
-  where
-    some : (m : ℕ) → (m ≡ 0 → ⊥) → 0 < m
-    some m n = omega arith
+digits : (m : ℕ) → (m ≡ 0 → ⊥) → m < 0x400 → Digits m (leadingZeros 32 m)
+digits m n h =
+    let some : 0 < m = omega arith in
+    let z = zeros 10 m some h (lit≤ tt) in
+    let least : 22 ≤ leadingZeros 32 m = omega (arith, z .0) in
+    record { least = least; most = z .1; led = leading 23 m (leadingZeros 32 m - 8) some (omega arith) (lit≤ tt) (omega arith) }
 
-    first : (l j : ℕ) → l + suc j ≡ 32 → j < 10 → 23 ≡ j + (l - 8)
-    first l j e h = omega arith
-
-    past : (l j : ℕ) → l + suc j ≡ 32 → j < 10 → suc j + (l - 8) ≡ 24
-    past l j e h = omega arith
-
-subnormal : (m l : ℕ) → m < 0x400 → Leading m l → (133 - l) * 0x80_0000 + m * 2 ^ (l - 8) ≡ convertedMagnitude f16 f32 m
+subnormal : (m l : ℕ) → m < 0x400 → Digits m l → (133 - l) * 0x80_0000 + m * 2 ^ (l - 8) ≡ convertedMagnitude f16 f32 m
 subnormal m l h d =
     of-size m ((133 - l) * 0x80_0000 + m * 2 ^ (l - 8)) (omega arith)
-    (units-full f32 (133 - l) (m * 2 ^ (l - 8)) (d .low) (omega (arith, d .high))
+    (units-full f32 (133 - l) (m * 2 ^ (l - 8)) (d .led .low) (omega (arith, d .led .high))
     ∙ mul-assoc m (2 ^ (l - 8)) (2 ^ (133 - l))
     ∙ ap (λ (x : ℕ). m * x) (sym (pow-add 2 (l - 8) (133 - l)) ∙ ap (λ (x : ℕ). 2 ^ x) (sum l (d .least) (d .most)))
     ∙ ap (λ (x : ℕ). x * 2 ^ 125) (sym (units-small f16 m h)))
@@ -86,8 +68,8 @@ subnormal m l h d =
     sum : (l : ℕ) → 22 ≤ l → l ≤ 31 → l - 8 + (133 - l) ≡ 125
     sum l h k = omega arith
 
-digits : (c : tie.Else3) → Leading (c .before .before .before .args .m) (leadingZeros 32 (c .before .before .before .args .m))
-digits c = leading (c .before .before .before .args .m) (c .if3 .left) (c .before .if2 .left)
+digits-at : (c : tie.Else3) → Digits (c .before .before .before .args .m) (leadingZeros 32 (c .before .before .before .args .m))
+digits-at c = digits (c .before .before .before .args .m) (c .if3 .left) (c .before .if2 .left)
 
 mul-result : tie.Need-mul-result
 mul-result c = search needs
@@ -96,19 +78,19 @@ add-result : tie.Need-add-result
 add-result c = search needs
 
 sub-result : tie.Need-sub-result
-sub-result c = omega (arith, digits c .most)
+sub-result c = omega (arith, digits-at c .most)
 
 mul-result-2 : tie.Need-mul-result-2
 mul-result-2 c = search needs
 
 sub-result-2 : tie.Need-sub-result-2
-sub-result-2 c = omega (arith, digits c .least)
+sub-result-2 c = omega (arith, digits-at c .least)
 
 shl-result : tie.Need-shl-result
-shl-result c = omega (arith, digits c .most)
+shl-result c = omega (arith, digits-at c .most)
 
 add-result-2 : tie.Need-add-result-2
-add-result-2 c = omega (arith, digits c .shifted, digits c .high, digits c .least)
+add-result-2 c = omega (arith, digits-at c .led .shifted, digits-at c .led .high, digits-at c .least)
 
 returns : tie.Need-returns
 returns c = sym (infinite-is f16 f32 _ (c .if1 .taken))
@@ -123,7 +105,7 @@ returns-4 : tie.Need-returns-4
 returns-4 c =
     let m = c .before .before .before .args .m in
     let l = leadingZeros 32 m in
-    ap (λ (x : ℕ). (133 - l) * 0x80_0000 + x) (digits c .shifted) ∙ subnormal m l (c .before .if2 .left) (digits c)
+    ap (λ (x : ℕ). (133 - l) * 0x80_0000 + x) (digits-at c .led .shifted) ∙ subnormal m l (c .before .if2 .left) (digits-at c)
 
 pub single-magnitude-spec : {M : Type 1} → statement M
 single-magnitude-spec =

@@ -1,0 +1,5 @@
+pub mod Marked
+pub mod Sets
+pub mod Passed
+pub mod Lanewise
+pub mod Chosen

@@ -1,0 +1,126 @@
+-- What a call gives: its refusal, or the answer of its builtin. Definitions only.
+use Prim.Native.Nat.{ℕ, zero, suc}
+use mathlib.Core.Bool.{Bool, true, false, cond}
+use Rattle.half.specs.Convert.{halfOf, singleOf}
+use Rattle.values.specs.declared.Scalar.the-variants.{I32, U32, F32}
+use Rattle.values.specs.declared.Size.the-variants.{Two, Four}
+use Rattle.values.specs.declared.Kind.{Kind}
+use Rattle.values.specs.declared.Kind.the-variants.{Vec}
+use Rattle.values.specs.declared.Value.{Value}
+use Rattle.builtins.specs.declared.Builtin.{Builtin}
+use Rattle.builtins.specs.declared.Builtin.the-variants.{All, Any, Select, Abs, Sign, CountLeadingZeros, CountOneBits, CountTrailingZeros, Min, Max, Clamp, Saturate, Step, Cross, Dot, Transpose, Frexp, Ldexp, Bitcast, Pack4x8snorm, Pack4x8unorm, Pack4xI8, Pack4xI8Clamp, Pack4xU8, Pack4xU8Clamp, Pack2x16snorm, Pack2x16unorm, Pack2x16float, Unpack4x8snorm, Unpack4x8unorm, Unpack4xI8, Unpack4xU8, Unpack2x16snorm, Unpack2x16unorm, Unpack2x16float, Unknown}
+use Rattle.builtins.specs.declared.Call.{Call}
+use Rattle.builtins.specs.declared.Answer.{Answer}
+use Rattle.values.specs.Value.{scalarOf, emptyValue, lanewise, lanewise2, lanewise3}
+use Rattle.builtins.specs.Refuse.{refusalOf}
+use Rattle.builtins.specs.Logical.{allOf, anyOf, selectOf}
+use Rattle.numeric.specs.Numeric.{absLane, signLane, leadingLane, onesLane, trailingLane, minLane, maxLane, clampLane, saturateLane, stepLane}
+use Rattle.builtins.specs.Numeric.{crossOf, dotOf, transposeOf}
+use Rattle.exponent.specs.Exponent.{ldexpLane}
+use Rattle.builtins.specs.Exponent.{fractionOf, exponentOf}
+use Rattle.builtins.specs.Bitcast.{bitcastOf}
+use Rattle.builtins.specs.Pack.{lowByte, extended, filled, word, packed, unpacked, packedNorms, unpackedNorms}
+
+-- "Each refusal returns its number and the empty value"
+unfoldable pub refused : ℕ → Answer
+refused n = record { refusal = n; first = emptyValue; second = emptyValue }
+
+-- "Only frexp answers a second value; elsewhere it is empty."
+unfoldable pub answered : Value → Answer
+answered v = record { refusal = 0; first = v; second = emptyValue }
+
+unfoldable pub answeredTwice : Value → Value → Answer
+answeredTwice v w = record { refusal = 0; first = v; second = w }
+
+-- a code as its lane
+abbrev pub plain : ℕ → ℕ
+plain c = c
+
+-- a call that is not refused
+abbrev pub answerBy : Builtin → Kind → Value → Value → Value → Answer
+answerBy All t a b c = answered (allOf a)
+answerBy Any t a b c = answered (anyOf a)
+answerBy Select t a b c = answered (selectOf a b c)
+answerBy Abs t a b c = answered (lanewise (absLane (scalarOf (a .kind))) a)
+answerBy Sign t a b c = answered (lanewise (signLane (scalarOf (a .kind))) a)
+answerBy CountLeadingZeros t a b c = answered (lanewise leadingLane a)
+answerBy CountOneBits t a b c = answered (lanewise onesLane a)
+answerBy CountTrailingZeros t a b c = answered (lanewise trailingLane a)
+answerBy Min t a b c = answered (lanewise2 (minLane (scalarOf (a .kind))) a b)
+answerBy Max t a b c = answered (lanewise2 (maxLane (scalarOf (a .kind))) a b)
+answerBy Clamp t a b c = answered (lanewise3 (clampLane (scalarOf (a .kind))) a b c)
+answerBy Saturate t a b c = answered (lanewise saturateLane a)
+answerBy Step t a b c = answered (lanewise2 (stepLane (scalarOf (a .kind))) a b)
+answerBy Cross t a b c = answered (crossOf a b)
+answerBy Dot t a b c = answered (dotOf a b)
+answerBy Transpose t a b c = answered (transposeOf a)
+answerBy Frexp t a b c = answeredTwice (fractionOf a) (exponentOf a)
+answerBy Ldexp t a b c = answered (lanewise2 ldexpLane a b)
+answerBy Bitcast t a b c = answered (bitcastOf t a)
+answerBy Pack4x8snorm t a b c = answered (packedNorms true 8 a)
+answerBy Pack4x8unorm t a b c = answered (packedNorms false 8 a)
+answerBy Pack4xI8 t a b c = answered (packed 8 lowByte a)
+answerBy Pack4xI8Clamp t a b c = answered (word (filled a))
+answerBy Pack4xU8 t a b c = answered (packed 8 lowByte a)
+answerBy Pack4xU8Clamp t a b c = answered (packed 8 lowByte a)
+answerBy Pack2x16snorm t a b c = answered (packedNorms true 16 a)
+answerBy Pack2x16unorm t a b c = answered (packedNorms false 16 a)
+answerBy Pack2x16float t a b c = answered (packed 16 halfOf a)
+answerBy Unpack4x8snorm t a b c = answered (unpackedNorms true 8 4 (Vec Four F32) a)
+answerBy Unpack4x8unorm t a b c = answered (unpackedNorms false 8 4 (Vec Four F32) a)
+answerBy Unpack4xI8 t a b c = answered (unpacked 8 4 extended (Vec Four I32) a)
+answerBy Unpack4xU8 t a b c = answered (unpacked 8 4 plain (Vec Four U32) a)
+answerBy Unpack2x16snorm t a b c = answered (unpackedNorms true 16 2 (Vec Two F32) a)
+answerBy Unpack2x16unorm t a b c = answered (unpackedNorms false 16 2 (Vec Two F32) a)
+answerBy Unpack2x16float t a b c = answered (unpacked 16 2 singleOf (Vec Two F32) a)
+answerBy Unknown t a b c = refused 1
+
+abbrev pub foldBy : ℕ → Call → Answer
+foldBy zero c = answerBy (c .builtin) (c .target) (c .a) (c .b) (c .c)
+foldBy (suc n) c = refused (suc n)
+
+unfoldable pub foldOf : Call → Answer
+foldOf c = foldBy (refusalOf c) c
+
+-- ---- the builtins that the program has so far; another is not in the table for now
+
+abbrev pub built : Builtin → Bool
+built All = true
+built Any = true
+built Select = true
+built Abs = true
+built Sign = true
+built CountLeadingZeros = true
+built CountOneBits = true
+built CountTrailingZeros = true
+built Min = false
+built Max = false
+built Clamp = false
+built Saturate = false
+built Step = false
+built Cross = false
+built Dot = false
+built Transpose = false
+built Frexp = false
+built Ldexp = false
+built Bitcast = false
+built Pack4x8snorm = false
+built Pack4x8unorm = false
+built Pack4xI8 = false
+built Pack4xI8Clamp = false
+built Pack4xU8 = false
+built Pack4xU8Clamp = false
+built Pack2x16snorm = false
+built Pack2x16unorm = false
+built Pack2x16float = false
+built Unpack4x8snorm = false
+built Unpack4x8unorm = false
+built Unpack4xI8 = false
+built Unpack4xU8 = false
+built Unpack2x16snorm = false
+built Unpack2x16unorm = false
+built Unpack2x16float = false
+built Unknown = false
+
+unfoldable pub foldNow : Call → Answer
+foldNow c = cond (built (c .builtin)) (foldOf c) (refused 1)

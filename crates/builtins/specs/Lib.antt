@@ -1,0 +1,9 @@
+pub mod Refuse
+pub mod Passed
+pub mod Logical
+pub mod Numeric
+pub mod Exponent
+pub mod Bitcast
+pub mod Pack
+pub mod Fold
+pub mod Formats

@@ -1,0 +1,32 @@
+-- all, any and select. Definitions only.
+use Prim.Native.Nat.{ℕ}
+use mathlib.Core.Bool.{Bool, not, cond}
+use mathlib.Core.List.{[], _∷_}
+use lib.Dec.{eqb}
+use lib.ListN.{replicate}
+use Rattle.values.specs.declared.Scalar.the-variants.{Boolean}
+use Rattle.values.specs.declared.Kind.the-variants.{One}
+use Rattle.values.specs.declared.Value.{Value}
+use Rattle.values.specs.Value.{sameKind, lanesOf, lane, value, every, lanewise3}
+
+-- a bool as a lane
+abbrev pub flag : Bool → ℕ
+flag b = cond b 1 0
+
+-- "all or any of a scalar is that scalar"
+unfoldable pub allOf : Value → Value
+allOf v = value (One Boolean) (flag (every (λ x. eqb x 1) (lanesOf v)) ∷ [])
+
+unfoldable pub anyOf : Value → Value
+anyOf v = value (One Boolean) (flag (not (every (λ x. eqb x 0) (lanesOf v))) ∷ [])
+
+-- a scalar condition holds for every lane
+abbrev pub spread : Value → Value
+spread c = cond (sameKind (c .kind) (One Boolean)) (record { kind = c .kind; lanes = replicate 16 (lane c 0) }) c
+
+-- select(f, t, cond): t where the condition is true
+abbrev pub selectLane : ℕ → ℕ → ℕ → ℕ
+selectLane f t c = cond (eqb c 0) f t
+
+unfoldable pub selectOf : Value → Value → Value → Value
+selectOf f t c = lanewise3 selectLane f t (spread c)

@@ -1,0 +1,274 @@
+// A call and its answer. What they mean is in specs/: `foldOf` gives the answer of every call.
+mod logical;
+mod numbers;
+mod refuse;
+
+use values::Kind;
+use values::Value;
+ghost use mathlib.Core.Path.{_≡_};
+ghost use mathlib.Core.Bool.{true, cond};
+ghost use lib.ListN.{take};
+ghost use Rattle.values.specs.Value.{laneCount, value};
+ghost use Rattle.builtins.specs.Refuse.{arity, judged, refusalOf, takes};
+ghost use Rattle.builtins.specs.Fold.{refused, answered, answerBy, foldOf, built, foldNow};
+
+// In the order of 01's table; Unknown is a name that is not in it.
+pub enum Builtin {
+    All,
+    Any,
+    Select,
+    Abs,
+    Sign,
+    CountLeadingZeros,
+    CountOneBits,
+    CountTrailingZeros,
+    Min,
+    Max,
+    Clamp,
+    Saturate,
+    Step,
+    Cross,
+    Dot,
+    Transpose,
+    Frexp,
+    Ldexp,
+    Bitcast,
+    Pack4x8snorm,
+    Pack4x8unorm,
+    Pack4xI8,
+    Pack4xI8Clamp,
+    Pack4xU8,
+    Pack4xU8Clamp,
+    Pack2x16snorm,
+    Pack2x16unorm,
+    Pack2x16float,
+    Unpack4x8snorm,
+    Unpack4x8unorm,
+    Unpack4xI8,
+    Unpack4xU8,
+    Unpack2x16snorm,
+    Unpack2x16unorm,
+    Unpack2x16float,
+    Unknown,
+}
+
+// What is taken in an argument's place. The first is any type; Only takes the one type; the others take a scalar or a vector of the scalars that they
+// name, but Vectors only a vector of them, and Matrices any matrix.
+pub enum Taken {
+    Anything,
+    Booleans,
+    Numbers,
+    Integers,
+    Ordered,
+    Floats,
+    Singles,
+    I32s,
+    Vectors,
+    Matrices,
+    Only(Kind),
+}
+
+// What is asked of arguments together.
+pub enum Together {
+    OneType,
+    Selectable,
+    SameShape,
+}
+
+// A row of 01's table: what is taken in each place, and together. Cast is bitcast's, whose type field and whose value are taken alike.
+pub enum Row {
+    Absent,
+    Unary(Taken),
+    Binary(Taken, Taken, Together),
+    Ternary(Taken, Taken, Taken, Together),
+    Cast(Taken),
+}
+
+// `target` is bitcast's type field, and `count` counts it. Slots past the count are not looked at.
+pub struct Call {
+    pub builtin: Builtin,
+    pub count: usize,
+    pub target: Kind,
+    pub a: Value,
+    pub b: Value,
+    pub c: Value,
+}
+
+// `refusal` is 01's number, 0 where the call is answered. Only frexp has a second value.
+pub struct Answer {
+    pub refusal: u8,
+    pub first: Value,
+    pub second: Value,
+}
+
+// ---- answers
+
+pub fn refused(n: u8) -> Answer
+    ensures { λ r. ⌜ r ≡ refused n ⌝ }
+{
+    let none = values::empty();
+    Answer {
+        refusal: n,
+        first: none,
+        second: none,
+    }
+}
+
+fn answered(v: Value) -> Answer
+    ensures { λ r. ⌜ r ≡ answered v ⌝ }
+{
+    let none = values::empty();
+    Answer {
+        refusal: 0,
+        first: v,
+        second: none,
+    }
+}
+
+// The answer of a lane by lane builtin.
+fn answered_lanes(k: Kind, x: [u32; 4]) -> Answer
+    ensures { λ r. ⌜ r ≡ answered (value k (take (laneCount k) x)) ⌝ }
+{
+    answered(values::of_lanes(k, x))
+}
+
+// ---- the builtins that are there so far
+
+fn is_built(b: Builtin) -> bool
+    ensures { λ r. ⌜ r ≡ built b ⌝ }
+{
+    match b {
+        Builtin::All => true,
+        Builtin::Any => true,
+        Builtin::Select => true,
+        Builtin::Abs => true,
+        Builtin::Sign => true,
+        Builtin::CountLeadingZeros => true,
+        Builtin::CountOneBits => true,
+        Builtin::CountTrailingZeros => true,
+        Builtin::Min => false,
+        Builtin::Max => false,
+        Builtin::Clamp => false,
+        Builtin::Saturate => false,
+        Builtin::Step => false,
+        Builtin::Cross => false,
+        Builtin::Dot => false,
+        Builtin::Transpose => false,
+        Builtin::Frexp => false,
+        Builtin::Ldexp => false,
+        Builtin::Bitcast => false,
+        Builtin::Pack4x8snorm => false,
+        Builtin::Pack4x8unorm => false,
+        Builtin::Pack4xI8 => false,
+        Builtin::Pack4xI8Clamp => false,
+        Builtin::Pack4xU8 => false,
+        Builtin::Pack4xU8Clamp => false,
+        Builtin::Pack2x16snorm => false,
+        Builtin::Pack2x16unorm => false,
+        Builtin::Pack2x16float => false,
+        Builtin::Unpack4x8snorm => false,
+        Builtin::Unpack4x8unorm => false,
+        Builtin::Unpack4xI8 => false,
+        Builtin::Unpack4xU8 => false,
+        Builtin::Unpack2x16snorm => false,
+        Builtin::Unpack2x16unorm => false,
+        Builtin::Unpack2x16float => false,
+        Builtin::Unknown => false,
+    }
+}
+
+// What its builtin makes of a call that is not refused.
+fn answer_of(which: Builtin, t: Kind, a: Value, b: Value, c: Value) -> Answer
+    requires { ⌜ judged (takes which) (arity (takes which)) t a b c ≡ 0 ⌝ }
+    ensures { λ r. ⌜ r ≡ cond (built which) (answerBy which t a b c) (refused 1) ⌝ }
+{
+    match which {
+        Builtin::All => logical::all(a),
+        Builtin::Any => logical::any(a),
+        Builtin::Select => logical::select(a, b, c),
+        Builtin::Abs => numbers::abs(a),
+        Builtin::Sign => numbers::sign(a),
+        Builtin::CountLeadingZeros => numbers::count_leading_zeros(a),
+        Builtin::CountOneBits => numbers::count_one_bits(a),
+        Builtin::CountTrailingZeros => numbers::count_trailing_zeros(a),
+        Builtin::Min => refused(1),
+        Builtin::Max => refused(1),
+        Builtin::Clamp => refused(1),
+        Builtin::Saturate => refused(1),
+        Builtin::Step => refused(1),
+        Builtin::Cross => refused(1),
+        Builtin::Dot => refused(1),
+        Builtin::Transpose => refused(1),
+        Builtin::Frexp => refused(1),
+        Builtin::Ldexp => refused(1),
+        Builtin::Bitcast => refused(1),
+        Builtin::Pack4x8snorm => refused(1),
+        Builtin::Pack4x8unorm => refused(1),
+        Builtin::Pack4xI8 => refused(1),
+        Builtin::Pack4xI8Clamp => refused(1),
+        Builtin::Pack4xU8 => refused(1),
+        Builtin::Pack4xU8Clamp => refused(1),
+        Builtin::Pack2x16snorm => refused(1),
+        Builtin::Pack2x16unorm => refused(1),
+        Builtin::Pack2x16float => refused(1),
+        Builtin::Unpack4x8snorm => refused(1),
+        Builtin::Unpack4x8unorm => refused(1),
+        Builtin::Unpack4xI8 => refused(1),
+        Builtin::Unpack4xU8 => refused(1),
+        Builtin::Unpack2x16snorm => refused(1),
+        Builtin::Unpack2x16unorm => refused(1),
+        Builtin::Unpack2x16float => refused(1),
+        Builtin::Unknown => refused(1),
+    }
+}
+
+// The refusal of a call, by its builtin's row of the table.
+fn refusal_of(call: Call) -> u8
+    ensures { λ r. ⌜ r ≡ refusalOf call ⌝ }
+{
+    let which = call.builtin;
+    let n = call.count;
+    let t = call.target;
+    let a = call.a;
+    let b = call.b;
+    let c = call.c;
+    refuse::judge(refuse::row_of(which), n, t, a, b, c)
+}
+
+// The answer of a call that is not refused.
+fn answer_call(call: Call) -> Answer
+    requires { ⌜ (built (call .builtin) ≡ true) × (refusalOf call ≡ 0) ⌝ }
+    ensures { λ r. ⌜ r ≡ answerBy (call .builtin) (call .target) (call .a) (call .b) (call .c) ⌝ }
+{
+    let which = call.builtin;
+    let t = call.target;
+    let a = call.a;
+    let b = call.b;
+    let c = call.c;
+    answer_of(which, t, a, b, c)
+}
+
+// The call by 01's table: its refusal, or its builtin's answer.
+fn fold_built(call: Call) -> Answer
+    requires { ⌜ built (call .builtin) ≡ true ⌝ }
+    ensures { λ r. ⌜ r ≡ foldOf call ⌝ }
+{
+    let n = refusal_of(call);
+    if n == 0 {
+        answer_call(call)
+    } else {
+        refused(n)
+    }
+}
+
+// What a call gives, whatever its fields hold.
+pub fn fold(call: Call) -> Answer
+    ensures { λ r. ⌜ r ≡ foldNow call ⌝ }
+{
+    let which = call.builtin;
+    if is_built(which) {
+        fold_built(call)
+    } else {
+        refused(1)
+    }
+}

@@ -1,0 +1,74 @@
+-- What a line gives: 01, "Lines". Definitions only.
+use Prim.Native.Nat.{ℕ}
+use mathlib.Core.Bool.{cond}
+use mathlib.Core.List.{List, [], _∷_, _++_}
+use lib.Dec.{ltb, eqb}
+use lib.ListN.{length}
+use Rattle.values.specs.declared.Kind.{Kind}
+use Rattle.values.specs.declared.Kind.the-variants.{Empty}
+use Rattle.values.specs.declared.Value.{Value}
+use Rattle.values.specs.Value.{emptyValue, isType}
+use Rattle.builtins.specs.declared.Builtin.{Builtin}
+use Rattle.builtins.specs.declared.Builtin.the-variants.{Bitcast}
+use Rattle.builtins.specs.declared.Call.{Call}
+use Rattle.builtins.specs.declared.Answer.{Answer}
+use Rattle.builtins.specs.Fold.{refused, foldNow}
+use Rattle.spelling.specs.Text.{sameBytes}
+use Rattle.spelling.specs.Types.{kindOf}
+use Rattle.spelling.specs.Read.{readValue}
+use Rattle.spelling.specs.Write.{textOf}
+use Rattle.lines.specs.declared.LineAnswer.{LineAnswer}
+use Rattle.lines.specs.Fields.{tab, fieldAt, argumentCount}
+use Rattle.lines.specs.Names.{nameOf, builtinOf}
+
+-- ---- the call that a line spells: a misspelled or missing value is the empty one there, and so refused in 3's place
+
+abbrev pub valueAt : List ℕ → ℕ → Value
+valueAt line k = readValue (fieldAt line k) .value
+
+abbrev pub typeAt : List ℕ → ℕ → Kind
+typeAt line k = kindOf (fieldAt line k)
+
+unfoldable pub plainCall : Builtin → ℕ → List ℕ → Call
+plainCall b n line = record { builtin = b; count = n; target = Empty; a = valueAt line 1; b = valueAt line 2; c = valueAt line 3 }
+
+-- "bitcast's first argument is a type"
+unfoldable pub castCall : Builtin → ℕ → List ℕ → Call
+castCall b n line = record { builtin = b; count = n; target = typeAt line 1; a = valueAt line 2; b = emptyValue; c = emptyValue }
+
+unfoldable pub callOf : List ℕ → Call
+callOf line =
+    cond (sameBytes (nameOf Bitcast) (fieldAt line 0)) (castCall (builtinOf (fieldAt line 0)) (argumentCount line) line)
+    (plainCall (builtinOf (fieldAt line 0)) (argumentCount line) line)
+
+-- ---- its answer
+
+abbrev pub mostBytes : ℕ
+mostBytes = 400
+
+-- "7: the line has more than 400 bytes, newline not counted"
+unfoldable pub lineOf : List ℕ → Answer
+lineOf line = cond (ltb mostBytes (length line)) (refused 7) (foldNow (callOf line))
+
+unfoldable pub refusalOf : List ℕ → ℕ
+refusalOf line = lineOf line .refusal
+
+-- "frexp answers two fields"
+unfoldable pub secondText : Value → List ℕ
+secondText v = cond (isType (v .kind)) (tab ∷ textOf v) []
+
+unfoldable pub answerOf : List ℕ → List ℕ
+answerOf line = textOf (lineOf line .first) ++ secondText (lineOf line .second)
+
+-- ---- a line's answer in lent memory of a size
+
+-- "8: the lent output is shorter than the answer line without newline"
+unfoldable pub refusalIn : ℕ → List ℕ → ℕ
+refusalIn room line = cond (eqb (refusalOf line) 0) (cond (ltb room (length (answerOf line))) 8 0) (refusalOf line)
+
+-- "Each refusal .. leaves the lent output as found; an answer changes no byte past its own, and writes no newline."
+unfoldable pub writtenIn : ℕ → List ℕ → List ℕ
+writtenIn room line = cond (eqb (refusalIn room line) 0) (answerOf line) []
+
+unfoldable pub lineAnswer : ℕ → List ℕ → LineAnswer
+lineAnswer room line = record { refusal = refusalIn room line; len = length (writtenIn room line) }

@@ -1,0 +1,1 @@
+// Lanes of the norm formats.

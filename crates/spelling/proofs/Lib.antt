@@ -1,0 +1,11 @@
+pub mod Digits
+pub mod Edges
+pub mod Guesses
+pub mod Hexes
+pub mod Lookup
+pub mod Puts
+pub mod ReadsBack
+pub mod Scan
+pub mod Spellings
+pub mod Texts
+pub mod WrittenSo

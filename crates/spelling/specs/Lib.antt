@@ -1,0 +1,6 @@
+pub mod Text
+pub mod Types
+pub mod Guess
+pub mod Hex
+pub mod Read
+pub mod Write

@@ -1,0 +1,296 @@
+// Lines of a buffer, answered one after another, and what of the buffer is kept for later.
+use lines::LineAnswer;
+ghost use mathlib.Core.Path.{_≡_};
+ghost use mathlib.Core.List.{List, [], _∷_, _++_};
+ghost use mathlib.Core.Bool.{Bool, true, false, not, _&&_, _||_, cond};
+ghost use Prim.Native.Nat.{ℕ, _+_, _-_, _*_, _/_, _<_, _≤_, min};
+ghost use lib.Dec.{leb, ltb, eqb};
+ghost use lib.ListN.{length, getD, take, drop};
+ghost use Rattle.spelling.specs.Write.{put};
+ghost use Rattle.stream.specs.Stream.{lineRoom, linesIn, ended, over, due, pieceText, pieceOf, partText, partOf, heldOf, startOf, stepOf, bufferOf, textOf};
+ghost use Rattle.stream.specs.Printed.{digits, places, decimal, refusedText, answerLine};
+ghost use Rattle.lines.specs.Line.{refusalOf, answerOf, refusalIn, writtenIn, lineAnswer};
+ghost use Rattle.stream.specs.Lines.{newlineAt};
+
+// A longer line is refused.
+const MOST_BYTES: usize = 400;
+// The longest answer has 311 bytes; its newline follows.
+const LINE_ROOM: usize = 312;
+
+// Part of the input that is done with: `size` bytes of it, `used` bytes of answers, and whether the next byte belongs to a line
+// that is answered already.
+pub struct Part {
+    pub size: usize,
+    pub used: usize,
+    pub skip: bool,
+}
+
+// What stands in the input buffer and what comes next: the bytes from `at` up to `have` are read and not yet answered; `skip`: they start
+// amid a line that is answered already; `last`: no byte comes after them. `used` bytes of answers are to be written first; then more is to
+// be read behind `have` (`reads`), or all is done (`done`), or neither.
+pub struct Held {
+    pub at: usize,
+    pub have: usize,
+    pub used: usize,
+    pub skip: bool,
+    pub last: bool,
+    pub reads: bool,
+    pub done: bool,
+}
+
+fn wide(x: u8) -> usize
+    ensures { λ r. ⌜ r ≡ x ⌝ }
+{
+    x as usize
+}
+
+// Where the first newline stands, or the length.
+fn newline(s: &[u8]) -> usize
+    ensures { λ r. ⌜ (r ≡ newlineAt (now (s .entry))) × (r ≤ length (now (s .entry))) ⌝ }
+{
+    let mut i = 0;
+    while i < s.len() {
+        if s[i] == 10 {
+            return i;
+        }
+        i += 1;
+    }
+    i
+}
+
+// A byte at a place; answers the next place.
+fn put_byte(out: &mut [u8], at: usize, b: u8) -> usize
+    requires { ⌜ at < length (now out) ⌝ }
+    ensures { λ r. ⌜ (r ≡ at + 1) × (now (out .exit) ≡ put (now (out .entry)) at (b ∷ [])) ⌝ }
+{
+    out[at] = b;
+    at + 1
+}
+
+fn digit_byte(d: usize) -> u8
+    requires { ⌜ d < 10 ⌝ }
+    ensures { λ r. ⌜ r ≡ 48 + d ⌝ }
+{
+    (48 + d) as u8
+}
+
+// The low n digits of v from `at` on; answers the next place.
+fn put_digits(out: &mut [u8], at: usize, n: usize, v: usize) -> usize
+    requires { ⌜ at + n ≤ length (now out) ⌝ }
+    ensures { λ r. ⌜ (r ≡ at + n) × (now (out .exit) ≡ put (now (out .entry)) at (digits n v)) ⌝ }
+{
+    let mut rest = v;
+    let mut i = n;
+    while i > 0 {
+        i -= 1;
+        out[at + i] = digit_byte(rest % 10);
+        rest = rest / 10;
+    }
+    at + n
+}
+
+fn places_of(v: usize) -> usize
+    ensures { λ r. ⌜ r ≡ places v ⌝ }
+{
+    if v < 10 {
+        1
+    } else if v < 100 {
+        2
+    } else {
+        3
+    }
+}
+
+// `refused`, tab, number at a place, nothing for 0; answers the next place.
+fn put_refusal(out: &mut [u8], at: usize, refusal: u8) -> usize
+    requires { ⌜ at + length (refusedText refusal) ≤ length (now out) ⌝ }
+    ensures { λ r. ⌜ (r ≡ at + length (refusedText refusal)) × (now (out .exit) ≡ put (now (out .entry)) at (refusedText refusal)) ⌝ }
+{
+    if refusal == 0 {
+        return at;
+    }
+    let v = wide(refusal);
+    let n = places_of(v);
+    let e = spelling::put_bytes(out, at, b"refused\t");
+    put_digits(out, e, n, v)
+}
+
+// A line's answer at a place, where there is room for any.
+fn line_at(line: &[u8], out: &mut [u8], at: usize) -> LineAnswer
+    requires { ⌜ at ≤ length (now out) ⌝ }
+    ensures { λ r. ⌜ (r ≡ lineAnswer (length (now (out .entry)) - at) (now (line .entry)))
+        × (now (out .exit) ≡ put (now (out .entry)) at (writtenIn (length (now (out .entry)) - at) (now (line .entry)))) ⌝ }
+{
+    lines::fold_line(line, &mut out[at..])
+}
+
+// A line's answer and its newline at a place; answers the next place.
+fn put_line(line: &[u8], out: &mut [u8], at: usize) -> usize
+    requires { ⌜ at + lineRoom ≤ length (now out) ⌝ }
+    ensures { λ r. ⌜ (r ≡ at + length (answerLine (now (line .entry)))) × (now (out .exit) ≡ put (now (out .entry)) at (answerLine (now (line .entry)))) ⌝ }
+{
+    let a = line_at(line, out, at);
+    let e = put_refusal(out, at + a.len, a.refusal);
+    put_byte(out, e, 10)
+}
+
+// The same where `due`, and nothing where not.
+fn put_due(due: bool, line: &[u8], out: &mut [u8], at: usize) -> usize
+    requires { ⌜ at + lineRoom ≤ length (now out) ⌝ }
+    ensures { λ r. ⌜ (r ≡ at + length (cond due (answerLine (now (line .entry))) []))
+        × (now (out .exit) ≡ put (now (out .entry)) at (cond due (answerLine (now (line .entry))) [])) ⌝ }
+{
+    if due { put_line(line, out, at) } else { at }
+}
+
+fn choose(on: bool, a: usize, b: usize) -> usize
+    ensures { λ r. ⌜ r ≡ cond on a b ⌝ }
+{
+    if on { a } else { b }
+}
+
+// The first line of s, where it is to be answered now.
+fn fold_piece(s: &[u8], skip: bool, last: bool, out: &mut [u8], at: usize) -> Part
+    requires { ⌜ at + lineRoom ≤ length (now out) ⌝ }
+    ensures { λ r. ⌜ (r ≡ pieceOf at skip last (now (s .entry)))
+        × (now (out .exit) ≡ put (now (out .entry)) at (pieceText skip last (now (s .entry)))) ⌝ }
+{
+    let n = s.len();
+    let e = newline(s);
+    let ended = e < n;
+    let over = n > MOST_BYTES;
+    let due = !skip & (ended | over | (last & (n > 0)));
+    let used = put_due(due, &s[0..e], out, at);
+    let size = choose(skip | over | last, n, 0);
+    Part {
+        size: after(ended, e, size),
+        used: used,
+        skip: !ended & (skip | over),
+    }
+}
+
+// Past the newline, where there is one.
+fn after(ended: bool, e: usize, size: usize) -> usize
+    requires { ⌜ e < 18446744073709551615 ⌝ }
+    ensures { λ r. ⌜ r ≡ cond ended (e + 1) size ⌝ }
+{
+    if ended { e + 1 } else { size }
+}
+
+// How many lines are left to answer: none where nothing was done.
+fn lines_left(left: usize, size: usize) -> usize
+    requires { ⌜ 0 < left ⌝ }
+    ensures { λ r. ⌜ (r < left) × (r ≡ cond (eqb size 0) 0 (left - 1)) ⌝ }
+{
+    if size == 0 { 0 } else { left - 1 }
+}
+
+// The lines of s, as many as have room for the longest answer each. `skip`: s starts amid a line that is answered already.
+// `last`: no byte comes after s.
+fn fold_part(s: &[u8], skip: bool, last: bool, out: &mut [u8]) -> Part
+    ensures { λ r. ⌜ (r ≡ partOf (linesIn (now (out .entry))) skip last (now (s .entry)))
+        × (now (out .exit) ≡ put (now (out .entry)) 0 (partText (linesIn (now (out .entry))) skip last (now (s .entry))))
+        × (r .size ≤ length (now (s .entry))) × (r .used ≤ length (now (out .entry))) ⌝ }
+{
+    let mut at = 0;
+    let mut used = 0;
+    let mut amid = skip;
+    let mut left = out.len() / LINE_ROOM;
+    while left > 0 {
+        let p = fold_piece(&s[at..], amid, last, out, used);
+        at += p.size;
+        used = p.used;
+        amid = p.skip;
+        left = lines_left(left, p.size);
+    }
+    Part {
+        size: at,
+        used: used,
+        skip: amid,
+    }
+}
+
+// What stands from `at` up to `have` goes to the start; answers how much that is.
+fn carry(buf: &mut [u8], at: usize, have: usize) -> usize
+    ensures { λ r. ⌜ (r ≡ length (heldOf (now (buf .entry)) at have)) × (now (buf .exit) ≡ put (now (buf .entry)) 0 (heldOf (now (buf .entry)) at have))
+        × (r ≤ length (now (buf .entry))) ⌝ }
+{
+    let end = least(have, buf.len());
+    if at > end {
+        return 0;
+    }
+    let n = end - at;
+    let mut i = 0;
+    while i < n {
+        buf[i] = buf[at + i];
+        i += 1;
+    }
+    n
+}
+
+fn least(a: usize, b: usize) -> usize
+    ensures { λ r. ⌜ r ≡ min a b ⌝ }
+{
+    if a < b { a } else { b }
+}
+
+// The lines of what the buffer holds.
+fn fold_held(buf: &[u8], at: usize, have: usize, skip: bool, last: bool, out: &mut [u8]) -> Part
+    ensures { λ r. ⌜ (r ≡ partOf (linesIn (now (out .entry))) skip last (heldOf (now (buf .entry)) at have))
+        × (now (out .exit) ≡ put (now (out .entry)) 0 (partText (linesIn (now (out .entry))) skip last (heldOf (now (buf .entry)) at have)))
+        × (r .size ≤ length (heldOf (now (buf .entry)) at have)) × (r .used ≤ length (now (out .entry))) ⌝ }
+{
+    let end = least(have, buf.len());
+    let start = least(at, end);
+    fold_part(&buf[start..end], skip, last, out)
+}
+
+// Before anything is read.
+pub fn start() -> Held
+    ensures { λ r. ⌜ r ≡ startOf ⌝ }
+{
+    Held {
+        at: 0,
+        have: 0,
+        used: 0,
+        skip: false,
+        last: false,
+        reads: false,
+        done: false,
+    }
+}
+
+// Answers lines of what is held. Where there is none to answer, what is held goes to the start of the buffer, so that there is room
+// to read more.
+pub fn step(buf: &mut [u8], out: &mut [u8], h: Held) -> Held
+    ensures { λ r. ⌜ (r ≡ stepOf (linesIn (now (out .entry))) (now (buf .entry)) h)
+        × (now (buf .exit) ≡ bufferOf (linesIn (now (out .entry))) (now (buf .entry)) h)
+        × (now (out .exit) ≡ put (now (out .entry)) 0 (textOf (linesIn (now (out .entry))) (now (buf .entry)) h))
+        × (r .at ≤ r .have) × (r .have ≤ length (now (buf .entry))) × (r .used ≤ length (now (out .entry))) ⌝ }
+{
+    let at = h.at;
+    let have = h.have;
+    let p = fold_held(buf, at, have, h.skip, h.last, out);
+    if p.size == 0 {
+        let n = carry(buf, at, have);
+        return Held {
+            at: 0,
+            have: n,
+            used: p.used,
+            skip: p.skip,
+            last: h.last,
+            reads: !h.last,
+            done: h.last,
+        };
+    }
+    let end = least(have, buf.len());
+    Held {
+        at: at + p.size,
+        have: end,
+        used: p.used,
+        skip: p.skip,
+        last: h.last,
+        reads: false,
+        done: false,
+    }
+}
