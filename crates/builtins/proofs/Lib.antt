@@ -3,3 +3,12 @@ pub mod Sets
 pub mod Passed
 pub mod Lanewise
 pub mod Chosen
+pub mod Answers
+pub mod Bytes
+pub mod Casting
+pub mod LaneLaws
+pub mod Packed
+pub mod PackedFormats
+pub mod Products
+pub mod Transposing
+pub mod Words

@@ -1,6 +1,6 @@
 -- What a call gives: its refusal, or the answer of its builtin. Definitions only.
 use Prim.Native.Nat.{ℕ, zero, suc}
-use mathlib.Core.Bool.{Bool, true, false, cond}
+use mathlib.Core.Bool.{true, false}
 use Rattle.half.specs.Convert.{halfOf, singleOf}
 use Rattle.values.specs.declared.Scalar.the-variants.{I32, U32, F32}
 use Rattle.values.specs.declared.Size.the-variants.{Two, Four}
@@ -81,46 +81,3 @@ foldBy (suc n) c = refused (suc n)
 
 unfoldable pub foldOf : Call → Answer
 foldOf c = foldBy (refusalOf c) c
-
--- ---- the builtins that the program has so far; another is not in the table for now
-
-abbrev pub built : Builtin → Bool
-built All = true
-built Any = true
-built Select = true
-built Abs = true
-built Sign = true
-built CountLeadingZeros = true
-built CountOneBits = true
-built CountTrailingZeros = true
-built Min = false
-built Max = false
-built Clamp = false
-built Saturate = false
-built Step = false
-built Cross = false
-built Dot = false
-built Transpose = false
-built Frexp = false
-built Ldexp = false
-built Bitcast = false
-built Pack4x8snorm = false
-built Pack4x8unorm = false
-built Pack4xI8 = false
-built Pack4xI8Clamp = false
-built Pack4xU8 = false
-built Pack4xU8Clamp = false
-built Pack2x16snorm = false
-built Pack2x16unorm = false
-built Pack2x16float = false
-built Unpack4x8snorm = false
-built Unpack4x8unorm = false
-built Unpack4xI8 = false
-built Unpack4xU8 = false
-built Unpack2x16snorm = false
-built Unpack2x16unorm = false
-built Unpack2x16float = false
-built Unknown = false
-
-unfoldable pub foldNow : Call → Answer
-foldNow c = cond (built (c .builtin)) (foldOf c) (refused 1)

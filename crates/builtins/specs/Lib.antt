@@ -2,8 +2,11 @@ pub mod Refuse
 pub mod Passed
 pub mod Logical
 pub mod Numeric
+pub mod Columns
 pub mod Exponent
 pub mod Bitcast
+pub mod Halves
 pub mod Pack
 pub mod Fold
 pub mod Formats
+pub mod Codings

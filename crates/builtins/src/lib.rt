@@ -1,16 +1,23 @@
 // A call and its answer. What they mean is in specs/: `foldOf` gives the answer of every call.
+mod bitcast;
 mod logical;
+mod matrix;
 mod numbers;
+mod order;
+mod pack;
+mod powers;
 mod refuse;
+mod vectors;
 
+use pack::Coding8;
+use pack::Coding16;
 use values::Kind;
 use values::Value;
 ghost use mathlib.Core.Path.{_≡_};
-ghost use mathlib.Core.Bool.{true, cond};
 ghost use lib.ListN.{take};
 ghost use Rattle.values.specs.Value.{laneCount, value};
 ghost use Rattle.builtins.specs.Refuse.{arity, judged, refusalOf, takes};
-ghost use Rattle.builtins.specs.Fold.{refused, answered, answerBy, foldOf, built, foldNow};
+ghost use Rattle.builtins.specs.Fold.{refused, answered, answeredTwice, answerBy, foldOf};
 
 // In the order of 01's table; Unknown is a name that is not in it.
 pub enum Builtin {
@@ -125,6 +132,17 @@ fn answered(v: Value) -> Answer
     }
 }
 
+// frexp's.
+fn answered_twice(fraction: Value, exponent: Value) -> Answer
+    ensures { λ r. ⌜ r ≡ answeredTwice fraction exponent ⌝ }
+{
+    Answer {
+        refusal: 0,
+        first: fraction,
+        second: exponent,
+    }
+}
+
 // The answer of a lane by lane builtin.
 fn answered_lanes(k: Kind, x: [u32; 4]) -> Answer
     ensures { λ r. ⌜ r ≡ answered (value k (take (laneCount k) x)) ⌝ }
@@ -132,55 +150,10 @@ fn answered_lanes(k: Kind, x: [u32; 4]) -> Answer
     answered(values::of_lanes(k, x))
 }
 
-// ---- the builtins that are there so far
-
-fn is_built(b: Builtin) -> bool
-    ensures { λ r. ⌜ r ≡ built b ⌝ }
-{
-    match b {
-        Builtin::All => true,
-        Builtin::Any => true,
-        Builtin::Select => true,
-        Builtin::Abs => true,
-        Builtin::Sign => true,
-        Builtin::CountLeadingZeros => true,
-        Builtin::CountOneBits => true,
-        Builtin::CountTrailingZeros => true,
-        Builtin::Min => false,
-        Builtin::Max => false,
-        Builtin::Clamp => false,
-        Builtin::Saturate => false,
-        Builtin::Step => false,
-        Builtin::Cross => false,
-        Builtin::Dot => false,
-        Builtin::Transpose => false,
-        Builtin::Frexp => false,
-        Builtin::Ldexp => false,
-        Builtin::Bitcast => false,
-        Builtin::Pack4x8snorm => false,
-        Builtin::Pack4x8unorm => false,
-        Builtin::Pack4xI8 => false,
-        Builtin::Pack4xI8Clamp => false,
-        Builtin::Pack4xU8 => false,
-        Builtin::Pack4xU8Clamp => false,
-        Builtin::Pack2x16snorm => false,
-        Builtin::Pack2x16unorm => false,
-        Builtin::Pack2x16float => false,
-        Builtin::Unpack4x8snorm => false,
-        Builtin::Unpack4x8unorm => false,
-        Builtin::Unpack4xI8 => false,
-        Builtin::Unpack4xU8 => false,
-        Builtin::Unpack2x16snorm => false,
-        Builtin::Unpack2x16unorm => false,
-        Builtin::Unpack2x16float => false,
-        Builtin::Unknown => false,
-    }
-}
-
 // What its builtin makes of a call that is not refused.
 fn answer_of(which: Builtin, t: Kind, a: Value, b: Value, c: Value) -> Answer
     requires { ⌜ judged (takes which) (arity (takes which)) t a b c ≡ 0 ⌝ }
-    ensures { λ r. ⌜ r ≡ cond (built which) (answerBy which t a b c) (refused 1) ⌝ }
+    ensures { λ r. ⌜ r ≡ answerBy which t a b c ⌝ }
 {
     match which {
         Builtin::All => logical::all(a),
@@ -191,33 +164,33 @@ fn answer_of(which: Builtin, t: Kind, a: Value, b: Value, c: Value) -> Answer
         Builtin::CountLeadingZeros => numbers::count_leading_zeros(a),
         Builtin::CountOneBits => numbers::count_one_bits(a),
         Builtin::CountTrailingZeros => numbers::count_trailing_zeros(a),
-        Builtin::Min => refused(1),
-        Builtin::Max => refused(1),
-        Builtin::Clamp => refused(1),
-        Builtin::Saturate => refused(1),
-        Builtin::Step => refused(1),
-        Builtin::Cross => refused(1),
-        Builtin::Dot => refused(1),
-        Builtin::Transpose => refused(1),
-        Builtin::Frexp => refused(1),
-        Builtin::Ldexp => refused(1),
-        Builtin::Bitcast => refused(1),
-        Builtin::Pack4x8snorm => refused(1),
-        Builtin::Pack4x8unorm => refused(1),
-        Builtin::Pack4xI8 => refused(1),
-        Builtin::Pack4xI8Clamp => refused(1),
-        Builtin::Pack4xU8 => refused(1),
-        Builtin::Pack4xU8Clamp => refused(1),
-        Builtin::Pack2x16snorm => refused(1),
-        Builtin::Pack2x16unorm => refused(1),
-        Builtin::Pack2x16float => refused(1),
-        Builtin::Unpack4x8snorm => refused(1),
-        Builtin::Unpack4x8unorm => refused(1),
-        Builtin::Unpack4xI8 => refused(1),
-        Builtin::Unpack4xU8 => refused(1),
-        Builtin::Unpack2x16snorm => refused(1),
-        Builtin::Unpack2x16unorm => refused(1),
-        Builtin::Unpack2x16float => refused(1),
+        Builtin::Min => order::min(a, b),
+        Builtin::Max => order::max(a, b),
+        Builtin::Clamp => order::clamp(a, b, c),
+        Builtin::Saturate => order::saturate(a),
+        Builtin::Step => order::step(a, b),
+        Builtin::Cross => vectors::cross(a, b),
+        Builtin::Dot => vectors::dot(a, b),
+        Builtin::Transpose => matrix::transpose(a),
+        Builtin::Frexp => powers::frexp(a),
+        Builtin::Ldexp => powers::ldexp(a, b),
+        Builtin::Bitcast => bitcast::bitcast(t, a),
+        Builtin::Pack4x8snorm => pack::pack8(Coding8::Snorm, a),
+        Builtin::Pack4x8unorm => pack::pack8(Coding8::Unorm, a),
+        Builtin::Pack4xI8 => pack::pack8(Coding8::Signed, a),
+        Builtin::Pack4xI8Clamp => pack::fill(a),
+        Builtin::Pack4xU8 => pack::pack8(Coding8::Unsigned, a),
+        Builtin::Pack4xU8Clamp => pack::pack8(Coding8::Unsigned, a),
+        Builtin::Pack2x16snorm => pack::pack16(Coding16::Snorm, a),
+        Builtin::Pack2x16unorm => pack::pack16(Coding16::Unorm, a),
+        Builtin::Pack2x16float => pack::pack16(Coding16::Float, a),
+        Builtin::Unpack4x8snorm => pack::unpack8(Coding8::Snorm, a),
+        Builtin::Unpack4x8unorm => pack::unpack8(Coding8::Unorm, a),
+        Builtin::Unpack4xI8 => pack::unpack8(Coding8::Signed, a),
+        Builtin::Unpack4xU8 => pack::unpack8(Coding8::Unsigned, a),
+        Builtin::Unpack2x16snorm => pack::unpack16(Coding16::Snorm, a),
+        Builtin::Unpack2x16unorm => pack::unpack16(Coding16::Unorm, a),
+        Builtin::Unpack2x16float => pack::unpack16(Coding16::Float, a),
         Builtin::Unknown => refused(1),
     }
 }
@@ -237,7 +210,7 @@ fn refusal_of(call: Call) -> u8
 
 // The answer of a call that is not refused.
 fn answer_call(call: Call) -> Answer
-    requires { ⌜ (built (call .builtin) ≡ true) × (refusalOf call ≡ 0) ⌝ }
+    requires { ⌜ refusalOf call ≡ 0 ⌝ }
     ensures { λ r. ⌜ r ≡ answerBy (call .builtin) (call .target) (call .a) (call .b) (call .c) ⌝ }
 {
     let which = call.builtin;
@@ -248,9 +221,8 @@ fn answer_call(call: Call) -> Answer
     answer_of(which, t, a, b, c)
 }
 
-// The call by 01's table: its refusal, or its builtin's answer.
-fn fold_built(call: Call) -> Answer
-    requires { ⌜ built (call .builtin) ≡ true ⌝ }
+// What a call gives, whatever its fields hold: its refusal, or its builtin's answer.
+pub fn fold(call: Call) -> Answer
     ensures { λ r. ⌜ r ≡ foldOf call ⌝ }
 {
     let n = refusal_of(call);
@@ -258,17 +230,5 @@ fn fold_built(call: Call) -> Answer
         answer_call(call)
     } else {
         refused(n)
-    }
-}
-
-// What a call gives, whatever its fields hold.
-pub fn fold(call: Call) -> Answer
-    ensures { λ r. ⌜ r ≡ foldNow call ⌝ }
-{
-    let which = call.builtin;
-    if is_built(which) {
-        fold_built(call)
-    } else {
-        refused(1)
     }
 }

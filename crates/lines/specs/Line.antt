@@ -12,7 +12,7 @@ use Rattle.builtins.specs.declared.Builtin.{Builtin}
 use Rattle.builtins.specs.declared.Builtin.the-variants.{Bitcast}
 use Rattle.builtins.specs.declared.Call.{Call}
 use Rattle.builtins.specs.declared.Answer.{Answer}
-use Rattle.builtins.specs.Fold.{refused, foldNow}
+use Rattle.builtins.specs.Fold.{refused, foldOf}
 use Rattle.spelling.specs.Text.{sameBytes}
 use Rattle.spelling.specs.Types.{kindOf}
 use Rattle.spelling.specs.Read.{readValue}
@@ -48,7 +48,7 @@ mostBytes = 400
 
 -- "7: the line has more than 400 bytes, newline not counted"
 unfoldable pub lineOf : List ℕ → Answer
-lineOf line = cond (ltb mostBytes (length line)) (refused 7) (foldNow (callOf line))
+lineOf line = cond (ltb mostBytes (length line)) (refused 7) (foldOf (callOf line))
 
 unfoldable pub refusalOf : List ℕ → ℕ
 refusalOf line = lineOf line .refusal

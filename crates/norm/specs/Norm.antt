@@ -2,7 +2,7 @@
 -- They are over (signed, w): false is unorm and true is snorm, of w bits.
 use Prim.Native.Nat.{ℕ, zero, suc, _+_, _-_, _*_, _/_, _^_, min}
 use mathlib.Core.Bool.{Bool, true, false, cond}
-use lib.Dec.{ltb}
+use lib.Dec.{ltb, eqb}
 use lib.IntN.{ℤ, pos, negsuc}
 use lib.Ieee.{Float, nan, inf, fin, binary32, up, down, add, mul, div, lt, ofInt, ofBits, toBits}
 
@@ -59,3 +59,8 @@ unfoldable pub unpackedNorm : Bool → ℕ → ℕ → ℕ
 unpackedNorm g w c =
     let q = div binary32 (ofInt binary32 (number g w c)) (ofInt binary32 (pos (scale g w))) in
     toBits binary32 (cond (lt q (least g)) (least g) q)
+
+-- "unorm .. words are their own. In snorm words each lane 80 (8000) becomes 81 (8001)."
+abbrev pub normalCode : Bool → ℕ → ℕ → ℕ
+normalCode false w c = c
+normalCode true w c = cond (eqb c (2 ^ (w - 1))) (suc c) c

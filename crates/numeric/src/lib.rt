@@ -1,4 +1,7 @@
 // Lanes of the numeric builtins, over 32 bits: i32, u32 and f32 lanes as their bits, f16 lanes in the low 16.
+pub mod order;
+pub mod vectors;
+
 use values::Scalar;
 ghost use mathlib.Core.Path.{_≡_};
 ghost use mathlib.Core.Bool.{cond};

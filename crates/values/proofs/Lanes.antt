@@ -53,7 +53,7 @@ zip-one f zero l = refl
 zip-one f (suc n) [] = refl
 zip-one f (suc n) (x ∷ l) = ap (_∷_ (f x)) (zip-one f n l)
 
-few : (k : Kind) → isLanes k ≡ true → laneCount k ≤ 4
+pub few : (k : Kind) → isLanes k ≡ true → laneCount k ≤ 4
 few (One s) t = omega arith
 few (Vec Two s) t = omega arith
 few (Vec Three s) t = omega arith

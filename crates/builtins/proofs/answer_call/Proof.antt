@@ -1,4 +1,4 @@
--- A call that is not refused has as many arguments as its row, and its builtin is there. Assumes nothing.
+-- A call that is not refused has as many arguments as its row. Assumes nothing.
 use Rattle.builtins.proofs.Passed.{at-arity}
 use Rattle.builtins.proofs.answer_call.Statement.{statement}
 use Rattle.builtins.proofs.answer_call.Tie as tie
@@ -7,5 +7,5 @@ pub answer-call-spec : {M : Type 1} → statement M
 answer-call-spec =
     tie.close
     (tie.spec
-    (λ c κs. at-arity _ _ _ _ _ _ (c .before .before .before .pre .1))
-    (λ c. rw (c .before .before .before .before .pre .0) at (c .answer-of .ensures)))
+    (λ c κs. at-arity _ _ _ _ _ _ (c .before .before .before .pre))
+    (λ c. c .answer-of .ensures))

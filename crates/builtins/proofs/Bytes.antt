@@ -1,0 +1,126 @@
+-- Lanes as bytes and back, over the bytes of a lane: parts of a number joined are the number, and joined parts parted are the parts. A lane of four bytes has the bytes of its halves. Assumes nothing.
+use Prim.Native.Nat.{ℕ, zero, suc, _+_, _*_, _/_, _%_, _^_, _<_}
+use mathlib.Core.Bool.{Bool, true}
+use mathlib.Core.List.{List, [], _∷_, _++_}
+use mathlib.Core.Path.{_≡_, refl, ap, subst, _∙_}
+use native.Mathlib.Nat.{zero-mul, suc-mul, mod-lt, div-div-eq-div-mul}
+use native.Mathlib.Omega.{arith}
+use borrow.Author.Tests.{ltb-true, lt-ltb}
+use lib.Dec.{ltb}
+use lib.ListN.{length, take, drop, length-append, length-take, length-drop, take-append-drop}
+use lib.Pow.{pow-pos}
+use lib.Seq.{take-at, drop-at}
+use Rattle.values.specs.Value.{every}
+use Rattle.values.proofs.Bools.{both, and}
+use Rattle.numeric.specs.Parts.{parts, joined}
+use Rattle.builtins.specs.Bitcast.{bytesOf, ofBytes}
+use Rattle.builtins.proofs.Words.{joined-parts, length-parts, lowest, others}
+
+abbrev pub below : ℕ → List ℕ → Bool
+below b xs = every (λ x. ltb x b) xs
+
+below-append : (b : ℕ) (xs ys : List ℕ) → below b xs ≡ true → below b ys ≡ true → below b (xs ++ ys) ≡ true
+below-append b [] ys s t = t
+below-append b (x ∷ xs) ys s t = let h = both (ltb x b) (below b xs) s in and (h .0) (below-append b xs ys (h .1) t)
+
+of-append : (b : ℕ) (xs ys : List ℕ) → below b (xs ++ ys) ≡ true → (below b xs ≡ true) × (below b ys ≡ true)
+of-append b [] ys t = (refl, t)
+of-append b (x ∷ xs) ys t =
+    let h = both (ltb x b) (below b (xs ++ ys)) t in
+    let r = of-append b xs ys (h .1) in
+    (and (h .0) (r .0), r .1)
+
+below-split : (b n : ℕ) (xs : List ℕ) → below b xs ≡ true → (below b (take n xs) ≡ true) × (below b (drop n xs) ≡ true)
+below-split b n xs t = of-append b (take n xs) (drop n xs) (rw (take-append-drop n xs) t)
+
+-- ---- a lane
+
+parts-below : (w n x : ℕ) → below (2 ^ w) (parts w n x) ≡ true
+parts-below w zero x = refl
+parts-below w (suc n) x = and (lt-ltb (x % 2 ^ w) (2 ^ w) (mod-lt x (pow-pos w))) (parts-below w n (x / 2 ^ w))
+
+pub parts-joined : (w : ℕ) (bs : List ℕ) → below (2 ^ w) bs ≡ true → parts w (length bs) (joined w bs) ≡ bs
+parts-joined w [] t = refl
+parts-joined w (b ∷ bs) t =
+    let ts = both (ltb b (2 ^ w)) (below (2 ^ w) bs) t in
+    let j = joined w bs in
+    let h : b < 2 ^ w = ltb-true b (2 ^ w) (ts .0) in
+    rw (lowest w j h, others w j h, parts-joined w bs (ts .1))
+
+-- ---- lanes of k bytes
+
+pub bytes-length : (k : ℕ) (xs : List ℕ) → length (bytesOf k xs) ≡ length xs * k
+bytes-length k [] = ap (λ (z : ℕ). z) (rw (zero-mul k))
+bytes-length k (x ∷ xs) = rw (length-append (parts 8 k x) (bytesOf k xs), length-parts 8 k x, bytes-length k xs, suc-mul (length xs) k) (omega arith)
+
+pub bytes-below : (k : ℕ) (xs : List ℕ) → below (2 ^ 8) (bytesOf k xs) ≡ true
+bytes-below k [] = refl
+bytes-below k (x ∷ xs) = below-append (2 ^ 8) (parts 8 k x) (bytesOf k xs) (parts-below 8 k x) (bytes-below k xs)
+
+pub lanes-length : (k n : ℕ) (bs : List ℕ) → length (ofBytes k n bs) ≡ n
+lanes-length k zero bs = refl
+lanes-length k (suc n) bs = ap suc (lanes-length k n (drop k bs))
+
+pub lanes-again : (k n : ℕ) (xs : List ℕ) → length xs ≡ n → below (2 ^ (k * 8)) xs ≡ true → ofBytes k n (bytesOf k xs) ≡ xs
+lanes-again k zero [] e t = refl
+lanes-again k zero (x ∷ xs) e t = absurd (omega arith)
+lanes-again k (suc n) [] e t = absurd (omega arith)
+lanes-again k (suc n) (x ∷ xs) e t =
+    let ts = both (ltb x (2 ^ (k * 8))) (below (2 ^ (k * 8)) xs) t in
+    let p = parts 8 k x in
+    let r = bytesOf k xs in
+    let l = length-parts 8 k x in
+    rw (take-at p r k l, drop-at p r k l, joined-parts 8 k x (ltb-true x (2 ^ (k * 8)) (ts .0)), lanes-again k n xs (omega arith) (ts .1))
+
+empty : (bs : List ℕ) → length bs ≡ 0 → [] ≡ bs
+empty [] e = refl
+empty (b ∷ bs) e = absurd (omega arith)
+
+pub bytes-again : (k n : ℕ) (bs : List ℕ) → length bs ≡ n * k → below (2 ^ 8) bs ≡ true → bytesOf k (ofBytes k n bs) ≡ bs
+bytes-again k zero bs e t = empty bs (e ∙ zero-mul k)
+bytes-again k (suc n) bs e t =
+    let s = below-split (2 ^ 8) k bs t in
+    let total : length bs ≡ n * k + k = e ∙ suc-mul n k in
+    let split = ap length (take-append-drop k bs) in
+    let first : length (take k bs) ≡ k = simp length-take (omega arith) in
+    let rest : length (drop k bs) ≡ n * k = simp length-drop (omega arith) in
+    let lane : parts 8 k (joined 8 (take k bs)) ≡ take k bs = subst (λ (m : ℕ). parts 8 m (joined 8 (take k bs)) ≡ take k bs) first (parts-joined 8 (take k bs) (s .0)) in
+    rw (lane, bytes-again k n (drop k bs) rest (s .1)) (take-append-drop k bs)
+
+-- ---- halves
+
+abbrev pub halves : List ℕ → List ℕ
+halves [] = []
+halves (x ∷ xs) = x % 2 ^ 16 ∷ x / 2 ^ 16 ∷ halves xs
+
+last-byte : (q m : ℕ) → (q * 256 + m) % 256 ≡ m % 256
+last-byte q m = omega arith
+
+wide-lane : (x : ℕ) → parts 8 4 x ≡ parts 8 2 (x % 2 ^ 16) ++ parts 8 2 (x / 2 ^ 16)
+wide-lane x =
+    let a : x % 256 ≡ x % 65536 % 256 = omega arith in
+    let split : x / 256 ≡ x / 65536 * 256 + x % 65536 / 256 = omega arith in
+    let b : x / 256 % 256 ≡ x % 65536 / 256 % 256 = ap (λ (y : ℕ). y % 256) split ∙ last-byte (x / 65536) (x % 65536 / 256) in
+    let high : x / 256 / 256 ≡ x / 65536 = div-div-eq-div-mul x 256 256 in
+    let c : x / 256 / 256 % 256 ≡ x / 65536 % 256 = rw high in
+    let d : x / 256 / 256 / 256 % 256 ≡ x / 65536 / 256 % 256 = rw high in
+    cc
+
+wide-bytes : (xs : List ℕ) → bytesOf 4 xs ≡ bytesOf 2 (halves xs)
+wide-bytes [] = refl
+wide-bytes (x ∷ xs) =
+    ap (λ (l : List ℕ). l ++ bytesOf 4 xs) (wide-lane x)
+    ∙ ap (λ (l : List ℕ). parts 8 2 (x % 2 ^ 16) ++ (parts 8 2 (x / 2 ^ 16) ++ l)) (wide-bytes xs)
+
+halves-below : (xs : List ℕ) → below (2 ^ 32) xs ≡ true → below (2 ^ 16) (halves xs) ≡ true
+halves-below [] t = refl
+halves-below (x ∷ xs) t =
+    let ts = both (ltb x (2 ^ 32)) (below (2 ^ 32) xs) t in
+    let h : x < 4294967296 = ltb-true x (2 ^ 32) (ts .0) in
+    and (lt-ltb (x % 2 ^ 16) (2 ^ 16) (omega arith)) (and (lt-ltb (x / 2 ^ 16) (2 ^ 16) (omega arith)) (halves-below xs (ts .1)))
+
+pub to-halves : (n : ℕ) (xs : List ℕ) → length (halves xs) ≡ n → below (2 ^ 32) xs ≡ true → ofBytes 2 n (bytesOf 4 xs) ≡ halves xs
+to-halves n xs e t = ap (ofBytes 2 n) (wide-bytes xs) ∙ lanes-again 2 n (halves xs) e (halves-below xs t)
+
+pub of-halves : (n : ℕ) (ys : List ℕ) → length ys ≡ n → below (2 ^ 32) ys ≡ true → ofBytes 4 n (bytesOf 2 (halves ys)) ≡ ys
+of-halves n ys e t = rw (← wide-bytes ys) (lanes-again 4 n ys e t)

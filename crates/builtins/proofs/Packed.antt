@@ -1,0 +1,59 @@
+-- The word that the program makes of the first four lanes, cut to 32 bits, is the word of the lanes in use. The cut does not change the lane of a word, nor the cut to w bits a norm code. Assumes nothing.
+use Prim.Native.Nat.{ℕ, _%_, _^_, _≤_}
+use mathlib.Core.Bool.{Bool}
+use mathlib.Core.List.{List, map}
+use mathlib.Core.Path.{_≡_, ap, sym, _∙_}
+use native.Mathlib.Nat.{mod-eq-of-lt}
+use native.Mathlib.Omega.{arith}
+use lib.ListN.{length, length-map, take}
+use lib.Seq.{take-at, length-take-le}
+use Rattle.norm.specs.Norm.{packedNorm}
+use Rattle.norm.proofs.Normal.{packed-below}
+use Rattle.values.specs.declared.Scalar.{Scalar}
+use Rattle.values.specs.declared.Scalar.the-variants.{U32}
+use Rattle.values.specs.declared.Size.{Size}
+use Rattle.values.specs.declared.Size.the-variants.{Two, Three, Four}
+use Rattle.values.specs.declared.Kind.{Kind}
+use Rattle.values.specs.declared.Kind.the-variants.{One, Vec}
+use Rattle.values.specs.declared.Value.{Value}
+use Rattle.values.specs.Value.{sizeOf, laneCount, lanesOf, lane, value}
+use Rattle.values.specs.Four.{low, four, isLanes}
+use Rattle.values.proofs.Formed.{lane-narrow}
+use Rattle.values.proofs.Lanes.{lanes1-as}
+use Rattle.values.proofs.Places.{same}
+use Rattle.numeric.specs.Parts.{joined}
+use Rattle.builtins.specs.declared.Taken.the-variants.{Only}
+use Rattle.builtins.specs.Pack.{word, packed}
+use Rattle.builtins.specs.Fold.{answered}
+use Rattle.builtins.specs.Passed.{Passed}
+
+pub value-lanes : (k : Kind) (xs : List ℕ) → length xs ≡ laneCount k → lanesOf (value k xs) ≡ xs
+unfolding value
+value-lanes k xs e = take-at xs _ (laneCount k) e
+
+few : (n : Size) → sizeOf n ≤ 4
+few Two = omega arith
+few Three = omega arith
+few Four = omega arith
+
+module _ (n : Size) (s : Scalar) (w : ℕ) (f : ℕ → ℕ) (v : Value) (l : length (v .lanes) ≡ 16) (p : Passed (Only (Vec n s)) v) where
+  kind-is : v .kind ≡ Vec n s
+  kind-is = same (p .alone)
+
+  codes : take (sizeOf n) (four f (four low (v .lanes))) ≡ map f (lanesOf v)
+  codes =
+      let count = ap laneCount kind-is in
+      let used : length (lanesOf v) ≡ laneCount (v .kind) = length-take-le (laneCount (v .kind)) (v .lanes) (omega (arith, few n)) in
+      sym (value-lanes (Vec n s) _ (length-take-le (sizeOf n) (four f (four low (v .lanes))) (few n)))
+      ∙ ap lanesOf (lanes1-as (Vec n s) f v l (p .formed) (ap isLanes kind-is) (sym count))
+      ∙ value-lanes (Vec n s) (map f (lanesOf v)) (length-map (lanesOf v) f ∙ used ∙ count)
+
+  pub packs : (x : ℕ) → x ≡ joined w (take (sizeOf n) (four f (four low (v .lanes)))) → answered (word x) ≡ answered (packed w f v)
+  unfolding packed
+  packs x e = ap (λ (y : ℕ). answered (word y)) (e ∙ ap (joined w) codes)
+
+pub uncut : (v : Value) → Passed (Only (One U32)) v → low (lane v 0) ≡ lane v 0
+uncut v p = mod-eq-of-lt (lane-narrow v (p .formed) 0)
+
+pub norm-code : (g : Bool) (w x y : ℕ) → 1 ≤ w → w ≤ 16 → y ≡ packedNorm g w x → y % 2 ^ w ≡ packedNorm g w x
+norm-code g w x y lo hi e = ap (λ (z : ℕ). z % 2 ^ w) e ∙ mod-eq-of-lt (packed-below g w x lo hi)

@@ -1,0 +1,14 @@
+-- Each lane is its part's. Assumes nothing.
+use borrow.Author.Needs.{needs}
+use Rattle.builtins.proofs.pack.lanes16.Statement.{statement}
+use Rattle.builtins.proofs.pack.lanes16.Tie as tie
+
+pub lanes16-spec : {M : Type 1} → statement M
+lanes16-spec =
+    tie.close
+    (tie.spec
+    (λ c κs. search needs)
+    (λ c κs. search needs)
+    (λ c κs. search needs)
+    (λ c κs. search needs)
+    (λ c. cc))

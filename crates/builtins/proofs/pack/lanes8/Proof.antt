@@ -1,0 +1,18 @@
+-- Each lane is its part's. Assumes nothing.
+use borrow.Author.Needs.{needs}
+use Rattle.builtins.proofs.pack.lanes8.Statement.{statement}
+use Rattle.builtins.proofs.pack.lanes8.Tie as tie
+
+pub lanes8-spec : {M : Type 1} → statement M
+lanes8-spec =
+    tie.close
+    (tie.spec
+    (λ c κs. search needs)
+    (λ c κs. search needs)
+    (λ c κs. search needs)
+    (λ c κs. search needs)
+    (λ c κs. search needs)
+    (λ c κs. search needs)
+    (λ c κs. search needs)
+    (λ c κs. search needs)
+    (λ c. cc))

@@ -1,0 +1,9 @@
+pub mod Widths
+pub mod Sizes
+pub mod Signs
+pub mod Fractions
+pub mod Codes
+pub mod Steps
+pub mod Lanes
+pub mod Trip
+pub mod Normal
