@@ -66,8 +66,8 @@ static int processor_converts(void)
 
 /* Ours: a library that defines these two is linked with -DOURS. */
 #ifdef OURS
-uint16_t f32_to_f16(uint32_t bits);
-uint32_t f16_to_f32(uint16_t bits);
+uint16_t chanrelout_f32_to_f16(uint32_t bits);
+uint32_t chanrelout_f16_to_f32(uint16_t bits);
 #endif
 
 static uint64_t compared, differing;
@@ -101,7 +101,7 @@ static void narrow(uint32_t x)
         hold16("processor", x, half, processor_f32_to_f16(x));
 #endif
 #ifdef OURS
-    hold16("ours", x, half, f32_to_f16(x));
+    hold16("ours", x, half, chanrelout_f32_to_f16(x));
 #endif
     compared++;
 }
@@ -119,7 +119,7 @@ static void widen(uint16_t x)
     uint32_t single = crate_f16_to_f32(x);
     hold32("C compiler", x, single, compiler_f16_to_f32(x));
 #ifdef OURS
-    hold32("ours", x, single, f16_to_f32(x));
+    hold32("ours", x, single, chanrelout_f16_to_f32(x));
 #endif
     compared++;
 }

@@ -6,11 +6,12 @@ use Rattle.values.specs.declared.Kind.{Kind}
 use Rattle.values.specs.declared.Kind.the-variants.{Empty}
 use Rattle.values.specs.declared.Value.{Value}
 use Rattle.values.specs.Value.{emptyValue, wellFormed}
-use Rattle.builtins.specs.declared.Builtin.{Builtin}
-use Rattle.builtins.specs.declared.Taken.{Taken}
-use Rattle.builtins.specs.declared.Row.{Row}
-use Rattle.builtins.specs.declared.Row.the-variants.{Unary}
-use Rattle.builtins.specs.Refuse.{taken, takes, judged}
+use Rattle.calls.specs.declared.Builtin.{Builtin}
+use Rattle.calls.specs.declared.Taken.{Taken}
+use Rattle.calls.specs.declared.Row.{Row}
+use Rattle.calls.specs.declared.Row.the-variants.{Unary}
+use Rattle.calls.specs.Table.{taken, takes}
+use Rattle.calls.specs.Refuse.{judged}
 use Rattle.builtins.specs.Fold.{foldBy, foldOf, answerBy}
 use Rattle.builtins.specs.Formats.{callOne}
 

@@ -19,9 +19,9 @@ use Rattle.values.specs.Four.{low, four, isLanes}
 use Rattle.values.proofs.Bools.{both, and}
 use Rattle.values.proofs.Lanes.{lanes1-as}
 use Rattle.values.proofs.Formed.{used-below, whole}
-use Rattle.builtins.specs.declared.Taken.the-variants.{Numbers}
-use Rattle.builtins.specs.Refuse.{among, taken}
-use Rattle.builtins.specs.Passed.{PassedCast}
+use Rattle.calls.specs.declared.Taken.the-variants.{Numbers}
+use Rattle.calls.specs.Table.{among, taken}
+use Rattle.calls.specs.Passed.{PassedCast}
 use Rattle.builtins.specs.Bitcast.{laneBytes, bytesOf, ofBytes, bitcastOf}
 use Rattle.builtins.specs.Halves.{isHalf, halved, paired, pairedLane, recast}
 use Rattle.builtins.proofs.Lanewise.{in-lanes}

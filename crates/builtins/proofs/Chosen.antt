@@ -16,9 +16,9 @@ use Rattle.values.specs.Four.{isLanes}
 use Rattle.values.proofs.Bools.{both}
 use Rattle.values.proofs.Formed.{whole}
 use Rattle.values.proofs.Places.{same}
-use Rattle.builtins.specs.declared.Together.the-variants.{Selectable}
-use Rattle.builtins.specs.declared.Taken.the-variants.{Anything, Booleans}
-use Rattle.builtins.specs.Passed.{Passed3}
+use Rattle.calls.specs.declared.Together.the-variants.{Selectable}
+use Rattle.calls.specs.declared.Taken.the-variants.{Anything, Booleans}
+use Rattle.calls.specs.Passed.{Passed3}
 use Rattle.builtins.specs.Logical.{selectLane, selectOf}
 use Rattle.builtins.proofs.Lanewise.{in-lanes}
 

@@ -11,7 +11,7 @@ use Rattle.values.specs.declared.Value.{Value}
 use Rattle.values.specs.Value.{laneCount, value, wellFormed, lanewise, lanewise2, lanewise3}
 use Rattle.values.specs.Four.{low, four, four2, four3, isLanes}
 use Rattle.values.proofs.Lanes.{lanes1, lanes2, lanes3}
-use Rattle.builtins.specs.Refuse.{scalarOrVector}
+use Rattle.calls.specs.Table.{scalarOrVector}
 use Rattle.builtins.specs.Fold.{answered}
 
 pub in-lanes : (ss : List Scalar) (k : Kind) → scalarOrVector ss k ≡ true → isLanes k ≡ true

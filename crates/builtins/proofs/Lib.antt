@@ -1,6 +1,4 @@
 pub mod Marked
-pub mod Sets
-pub mod Passed
 pub mod Lanewise
 pub mod Chosen
 pub mod Answers

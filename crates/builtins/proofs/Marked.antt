@@ -10,12 +10,12 @@ use Rattle.values.specs.declared.Scalar.the-variants.{I32, U32, F32}
 use Rattle.values.specs.declared.Size.the-variants.{Two, Four}
 use Rattle.values.specs.declared.Kind.the-variants.{Empty, One, Vec}
 use Rattle.values.specs.declared.Value.{Value}
-use Rattle.builtins.specs.declared.Builtin.{Builtin}
-use Rattle.builtins.specs.declared.Builtin.the-variants.{Max, Clamp, Dot, Frexp, Ldexp, Pack4x8snorm, Pack4x8unorm, Pack4xI8Clamp, Pack4xU8Clamp, Pack2x16float, Unpack4x8snorm}
-use Rattle.builtins.specs.declared.Call.{Call}
+use Rattle.calls.specs.declared.Builtin.{Builtin}
+use Rattle.calls.specs.declared.Builtin.the-variants.{Max, Clamp, Dot, Frexp, Ldexp, Pack4x8snorm, Pack4x8unorm, Pack4xI8Clamp, Pack4xU8Clamp, Pack2x16float, Unpack4x8snorm}
+use Rattle.calls.specs.declared.Call.{Call}
+use Rattle.calls.specs.Refuse.{judged}
 use Rattle.builtins.specs.declared.Answer.{Answer}
 use Rattle.values.specs.Value.{value, emptyValue, wellFormed, lanewise, lanewise2, lanewise3}
-use Rattle.builtins.specs.Refuse.{judged}
 use Rattle.builtins.specs.Numeric.{dotOf}
 use Rattle.exponent.specs.Exponent.{fraction, exponent, ldexp}
 use Rattle.norm.specs.Norm.{stepped, floorCode, packedNorm, unpackedNorm}

@@ -22,10 +22,10 @@ use Rattle.values.proofs.Formed.{lane-narrow}
 use Rattle.values.proofs.Lanes.{lanes1-as}
 use Rattle.values.proofs.Places.{same}
 use Rattle.numeric.specs.Parts.{joined}
-use Rattle.builtins.specs.declared.Taken.the-variants.{Only}
+use Rattle.calls.specs.declared.Taken.the-variants.{Only}
+use Rattle.calls.specs.Passed.{Passed}
 use Rattle.builtins.specs.Pack.{word, packed}
 use Rattle.builtins.specs.Fold.{answered}
-use Rattle.builtins.specs.Passed.{Passed}
 
 pub value-lanes : (k : Kind) (xs : List ℕ) → length xs ≡ laneCount k → lanesOf (value k xs) ≡ xs
 unfolding value

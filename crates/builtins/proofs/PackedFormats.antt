@@ -15,10 +15,10 @@ use Rattle.values.specs.Value.{laneBits, scalarOf, laneCount, isType, lanesOf, 
 use Rattle.values.proofs.Formed.{formed}
 use Rattle.values.proofs.Places.{itself}
 use Rattle.numeric.specs.Parts.{parts, joined}
+use Rattle.calls.specs.declared.Row.the-variants.{Unary}
+use Rattle.calls.specs.declared.Taken.the-variants.{Only}
+use Rattle.calls.specs.Table.{takes}
 use Rattle.builtins.specs.declared.Answer.{Answer}
-use Rattle.builtins.specs.declared.Row.the-variants.{Unary}
-use Rattle.builtins.specs.declared.Taken.the-variants.{Only}
-use Rattle.builtins.specs.Refuse.{takes}
 use Rattle.builtins.specs.Pack.{word, packed, unpacked}
 use Rattle.builtins.specs.Fold.{answered, answerBy}
 use Rattle.builtins.specs.Formats.{Format, x8snorm, x8unorm, xI8, xU8, x16snorm, x16unorm, x16float, packer, unpacker, lanesKind, normalForm, packing, unpacking, PackUnpack, SameLanes, PacksNormal}

@@ -16,7 +16,7 @@ use Rattle.values.specs.Four.{low, four, isLanes}
 use Rattle.values.proofs.Formed.{lane-narrow}
 use Rattle.numeric.specs.Numeric.{crossLane, dotLane}
 use Rattle.numeric.proofs.Summed.{dot-uncut}
-use Rattle.builtins.specs.Refuse.{vector}
+use Rattle.calls.specs.Table.{vector}
 use Rattle.builtins.specs.Numeric.{crossOf, dotOf}
 use Rattle.builtins.specs.Fold.{answered}
 

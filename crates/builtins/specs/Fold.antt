@@ -7,12 +7,12 @@ use Rattle.values.specs.declared.Size.the-variants.{Two, Four}
 use Rattle.values.specs.declared.Kind.{Kind}
 use Rattle.values.specs.declared.Kind.the-variants.{Vec}
 use Rattle.values.specs.declared.Value.{Value}
-use Rattle.builtins.specs.declared.Builtin.{Builtin}
-use Rattle.builtins.specs.declared.Builtin.the-variants.{All, Any, Select, Abs, Sign, CountLeadingZeros, CountOneBits, CountTrailingZeros, Min, Max, Clamp, Saturate, Step, Cross, Dot, Transpose, Frexp, Ldexp, Bitcast, Pack4x8snorm, Pack4x8unorm, Pack4xI8, Pack4xI8Clamp, Pack4xU8, Pack4xU8Clamp, Pack2x16snorm, Pack2x16unorm, Pack2x16float, Unpack4x8snorm, Unpack4x8unorm, Unpack4xI8, Unpack4xU8, Unpack2x16snorm, Unpack2x16unorm, Unpack2x16float, Unknown}
-use Rattle.builtins.specs.declared.Call.{Call}
+use Rattle.calls.specs.declared.Builtin.{Builtin}
+use Rattle.calls.specs.declared.Builtin.the-variants.{All, Any, Select, Abs, Sign, CountLeadingZeros, CountOneBits, CountTrailingZeros, Min, Max, Clamp, Saturate, Step, Cross, Dot, Transpose, Frexp, Ldexp, Bitcast, Pack4x8snorm, Pack4x8unorm, Pack4xI8, Pack4xI8Clamp, Pack4xU8, Pack4xU8Clamp, Pack2x16snorm, Pack2x16unorm, Pack2x16float, Unpack4x8snorm, Unpack4x8unorm, Unpack4xI8, Unpack4xU8, Unpack2x16snorm, Unpack2x16unorm, Unpack2x16float, Unknown}
+use Rattle.calls.specs.declared.Call.{Call}
+use Rattle.calls.specs.Refuse.{refusalOf}
 use Rattle.builtins.specs.declared.Answer.{Answer}
 use Rattle.values.specs.Value.{scalarOf, emptyValue, lanewise, lanewise2, lanewise3}
-use Rattle.builtins.specs.Refuse.{refusalOf}
 use Rattle.builtins.specs.Logical.{allOf, anyOf, selectOf}
 use Rattle.numeric.specs.Numeric.{absLane, signLane, leadingLane, onesLane, trailingLane, minLane, maxLane, clampLane, saturateLane, stepLane}
 use Rattle.builtins.specs.Numeric.{crossOf, dotOf, transposeOf}

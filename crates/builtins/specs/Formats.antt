@@ -10,9 +10,9 @@ use Rattle.values.specs.declared.Size.the-variants.{Two, Four}
 use Rattle.values.specs.declared.Kind.{Kind}
 use Rattle.values.specs.declared.Kind.the-variants.{Empty, Vec}
 use Rattle.values.specs.declared.Value.{Value}
-use Rattle.builtins.specs.declared.Builtin.{Builtin}
-use Rattle.builtins.specs.declared.Builtin.the-variants.{Pack4x8snorm, Pack4x8unorm, Pack4xI8, Pack4xU8, Pack2x16snorm, Pack2x16unorm, Pack2x16float, Unpack4x8snorm, Unpack4x8unorm, Unpack4xI8, Unpack4xU8, Unpack2x16snorm, Unpack2x16unorm, Unpack2x16float}
-use Rattle.builtins.specs.declared.Call.{Call}
+use Rattle.calls.specs.declared.Builtin.{Builtin}
+use Rattle.calls.specs.declared.Builtin.the-variants.{Pack4x8snorm, Pack4x8unorm, Pack4xI8, Pack4xU8, Pack2x16snorm, Pack2x16unorm, Pack2x16float, Unpack4x8snorm, Unpack4x8unorm, Unpack4xI8, Unpack4xU8, Unpack2x16snorm, Unpack2x16unorm, Unpack2x16float}
+use Rattle.calls.specs.declared.Call.{Call}
 use Rattle.values.specs.Value.{emptyValue, wellFormed, lane}
 use Rattle.numeric.specs.Parts.{parts, joined}
 use Rattle.half.specs.Format.{f16, nan, isNan}

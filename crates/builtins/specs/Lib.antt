@@ -1,5 +1,3 @@
-pub mod Refuse
-pub mod Passed
 pub mod Logical
 pub mod Numeric
 pub mod Columns

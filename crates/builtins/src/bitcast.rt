@@ -1,14 +1,14 @@
 // bitcast: a lane of 32 bits is two of 16, the low half first.
 use crate::Answer;
-use crate::Taken;
+use calls::Taken;
 use values::Kind;
 use values::Scalar;
 use values::Value;
 ghost use mathlib.Core.Path.{_≡_};
+ghost use Rattle.calls.specs.Passed.{PassedCast};
 ghost use Rattle.builtins.specs.Bitcast.{bitcastOf};
 ghost use Rattle.builtins.specs.Halves.{isHalf, halved, paired, pairedLane, recast};
 ghost use Rattle.builtins.specs.Fold.{answered};
-ghost use Rattle.builtins.specs.Passed.{PassedCast};
 
 fn is_half(s: Scalar) -> bool
     ensures { λ r. ⌜ r ≡ isHalf s ⌝ }

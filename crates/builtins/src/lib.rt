@@ -1,4 +1,4 @@
-// A call and its answer. What they mean is in specs/: `foldOf` gives the answer of every call.
+// What a call gives. What it means is in specs/: `foldOf` gives the answer of every call.
 mod bitcast;
 mod logical;
 mod matrix;
@@ -6,9 +6,10 @@ mod numbers;
 mod order;
 mod pack;
 mod powers;
-mod refuse;
 mod vectors;
 
+use calls::Builtin;
+use calls::Call;
 use pack::Coding8;
 use pack::Coding16;
 use values::Kind;
@@ -16,90 +17,9 @@ use values::Value;
 ghost use mathlib.Core.Path.{_≡_};
 ghost use lib.ListN.{take};
 ghost use Rattle.values.specs.Value.{laneCount, value};
-ghost use Rattle.builtins.specs.Refuse.{arity, judged, refusalOf, takes};
+ghost use Rattle.calls.specs.Table.{takes};
+ghost use Rattle.calls.specs.Refuse.{arity, judged, refusalOf};
 ghost use Rattle.builtins.specs.Fold.{refused, answered, answeredTwice, answerBy, foldOf};
-
-// In the order of 01's table; Unknown is a name that is not in it.
-pub enum Builtin {
-    All,
-    Any,
-    Select,
-    Abs,
-    Sign,
-    CountLeadingZeros,
-    CountOneBits,
-    CountTrailingZeros,
-    Min,
-    Max,
-    Clamp,
-    Saturate,
-    Step,
-    Cross,
-    Dot,
-    Transpose,
-    Frexp,
-    Ldexp,
-    Bitcast,
-    Pack4x8snorm,
-    Pack4x8unorm,
-    Pack4xI8,
-    Pack4xI8Clamp,
-    Pack4xU8,
-    Pack4xU8Clamp,
-    Pack2x16snorm,
-    Pack2x16unorm,
-    Pack2x16float,
-    Unpack4x8snorm,
-    Unpack4x8unorm,
-    Unpack4xI8,
-    Unpack4xU8,
-    Unpack2x16snorm,
-    Unpack2x16unorm,
-    Unpack2x16float,
-    Unknown,
-}
-
-// What is taken in an argument's place. The first is any type; Only takes the one type; the others take a scalar or a vector of the scalars that they
-// name, but Vectors only a vector of them, and Matrices any matrix.
-pub enum Taken {
-    Anything,
-    Booleans,
-    Numbers,
-    Integers,
-    Ordered,
-    Floats,
-    Singles,
-    I32s,
-    Vectors,
-    Matrices,
-    Only(Kind),
-}
-
-// What is asked of arguments together.
-pub enum Together {
-    OneType,
-    Selectable,
-    SameShape,
-}
-
-// A row of 01's table: what is taken in each place, and together. Cast is bitcast's, whose type field and whose value are taken alike.
-pub enum Row {
-    Absent,
-    Unary(Taken),
-    Binary(Taken, Taken, Together),
-    Ternary(Taken, Taken, Taken, Together),
-    Cast(Taken),
-}
-
-// `target` is bitcast's type field, and `count` counts it. Slots past the count are not looked at.
-pub struct Call {
-    pub builtin: Builtin,
-    pub count: usize,
-    pub target: Kind,
-    pub a: Value,
-    pub b: Value,
-    pub c: Value,
-}
 
 // `refusal` is 01's number, 0 where the call is answered. Only frexp has a second value.
 pub struct Answer {
@@ -195,19 +115,6 @@ fn answer_of(which: Builtin, t: Kind, a: Value, b: Value, c: Value) -> Answer
     }
 }
 
-// The refusal of a call, by its builtin's row of the table.
-fn refusal_of(call: Call) -> u8
-    ensures { λ r. ⌜ r ≡ refusalOf call ⌝ }
-{
-    let which = call.builtin;
-    let n = call.count;
-    let t = call.target;
-    let a = call.a;
-    let b = call.b;
-    let c = call.c;
-    refuse::judge(refuse::row_of(which), n, t, a, b, c)
-}
-
 // The answer of a call that is not refused.
 fn answer_call(call: Call) -> Answer
     requires { ⌜ refusalOf call ≡ 0 ⌝ }
@@ -225,7 +132,7 @@ fn answer_call(call: Call) -> Answer
 pub fn fold(call: Call) -> Answer
     ensures { λ r. ⌜ r ≡ foldOf call ⌝ }
 {
-    let n = refusal_of(call);
+    let n = calls::refusal_of(call);
     if n == 0 {
         answer_call(call)
     } else {

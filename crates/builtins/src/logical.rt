@@ -1,7 +1,7 @@
 // all, any and select.
 use crate::Answer;
-use crate::Taken;
-use crate::Together;
+use calls::Taken;
+use calls::Together;
 use values::Kind;
 use values::Scalar;
 use values::Value;
@@ -13,9 +13,9 @@ ghost use lib.Dec.{eqb};
 ghost use lib.ListN.{take};
 ghost use Rattle.values.specs.Value.{value, every, wellFormed, lanewise3};
 ghost use Rattle.values.specs.Four.{four3, isLanes};
+ghost use Rattle.calls.specs.Passed.{Passed3};
 ghost use Rattle.builtins.specs.Logical.{flag, allOf, anyOf, selectLane, selectOf};
 ghost use Rattle.builtins.specs.Fold.{answered};
-ghost use Rattle.builtins.specs.Passed.{Passed3};
 
 // Whether each of the first n lanes is x.
 fn each_is(lanes: [u64; 16], n: usize, x: u64) -> bool

@@ -6,7 +6,7 @@ use values::Value;
 use values::Width;
 ghost use mathlib.Core.Path.{_≡_};
 ghost use Prim.Native.Nat.{_*_, _/_, _%_, _<_, _≤_};
-ghost use Rattle.builtins.specs.Columns.{column, columns, at, turned, lanesOfColumns};
+ghost use Rattle.builtins.specs.Columns.{column, columns, at, row, turned, lanesOfColumns};
 ghost use Rattle.builtins.specs.Numeric.{transposed, transposeOf};
 ghost use Rattle.builtins.specs.Fold.{answered};
 
@@ -31,15 +31,17 @@ fn columns(l: [u64; 16], n: usize) -> [[u64; 4]; 4]
     ]
 }
 
+fn row(m: [[u64; 4]; 4], r: usize) -> [u64; 4]
+    requires { ⌜ r < 4 ⌝ }
+    ensures { λ x. ⌜ x ≡ row m r ⌝ }
+{
+    [m[0][r], m[1][r], m[2][r], m[3][r]]
+}
+
 fn turned(m: [[u64; 4]; 4]) -> [[u64; 4]; 4]
     ensures { λ x. ⌜ x ≡ turned m ⌝ }
 {
-    [
-        [m[0][0], m[1][0], m[2][0], m[3][0]],
-        [m[0][1], m[1][1], m[2][1], m[3][1]],
-        [m[0][2], m[1][2], m[2][2], m[3][2]],
-        [m[0][3], m[1][3], m[2][3], m[3][3]],
-    ]
+    [row(m, 0), row(m, 1), row(m, 2), row(m, 3)]
 }
 
 // Lane i of columns of n rows.

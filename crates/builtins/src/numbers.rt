@@ -1,12 +1,12 @@
 // abs, sign and the counts of a value: the lanes are the crate numeric's.
 use crate::Answer;
-use crate::Taken;
+use calls::Taken;
 use values::Value;
 ghost use mathlib.Core.Path.{_≡_};
 ghost use Rattle.values.specs.Value.{scalarOf, lanewise};
 ghost use Rattle.numeric.specs.Numeric.{absLane, signLane, leadingLane, onesLane, trailingLane};
+ghost use Rattle.calls.specs.Passed.{Passed};
 ghost use Rattle.builtins.specs.Fold.{answered};
-ghost use Rattle.builtins.specs.Passed.{Passed};
 
 pub fn abs(v: Value) -> Answer
     requires { ⌜ Passed Taken.Numbers v ⌝ }

@@ -1,13 +1,13 @@
 // min, max, clamp, saturate and step of values: the lanes are the crate numeric's.
 use crate::Answer;
-use crate::Taken;
-use crate::Together;
+use calls::Taken;
+use calls::Together;
 use values::Value;
 ghost use mathlib.Core.Path.{_≡_};
 ghost use Rattle.values.specs.Value.{scalarOf, lanewise, lanewise2, lanewise3};
 ghost use Rattle.numeric.specs.Numeric.{minLane, maxLane, clampLane, saturateLane, stepLane};
+ghost use Rattle.calls.specs.Passed.{Passed, Passed2, Passed3};
 ghost use Rattle.builtins.specs.Fold.{answered};
-ghost use Rattle.builtins.specs.Passed.{Passed, Passed2, Passed3};
 
 pub fn min(a: Value, b: Value) -> Answer
     requires { ⌜ Passed2 Taken.Ordered Taken.Ordered Together.OneType a b ⌝ }

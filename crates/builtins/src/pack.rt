@@ -1,6 +1,6 @@
 // Packing and unpacking words. A format is the width of its lanes, 8 or 16, and a coding: how a lane becomes a code of that width, and a code a lane.
 use crate::Answer;
-use crate::Taken;
+use calls::Taken;
 use values::Kind;
 use values::Scalar;
 use values::Size;
@@ -12,10 +12,10 @@ ghost use lib.ListN.{take, getD};
 ghost use lib.Bits.{bitOr};
 ghost use Rattle.values.specs.Four.{four};
 ghost use Rattle.numeric.specs.Parts.{parts, joined};
+ghost use Rattle.calls.specs.Passed.{Passed};
 ghost use Rattle.builtins.specs.Pack.{extended, filled, word, packed, unpacked};
 ghost use Rattle.builtins.specs.Codings.{scalar8Of, code8Of, lane8Of, code16Of, lane16Of, fillingFrom};
 ghost use Rattle.builtins.specs.Fold.{answered};
-ghost use Rattle.builtins.specs.Passed.{Passed};
 
 pub enum Coding8 {
     Snorm,

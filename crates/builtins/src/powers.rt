@@ -1,15 +1,15 @@
 // frexp and ldexp of a value: the lanes are the crate exponent's.
 use crate::Answer;
-use crate::Taken;
-use crate::Together;
+use calls::Taken;
+use calls::Together;
 use values::Scalar;
 use values::Value;
 ghost use mathlib.Core.Path.{_≡_};
 ghost use Rattle.values.specs.Value.{lanewise2};
 ghost use Rattle.exponent.specs.Exponent.{ldexpLane};
+ghost use Rattle.calls.specs.Passed.{Passed, Passed2};
 ghost use Rattle.builtins.specs.Exponent.{fractionOf, exponentOf};
 ghost use Rattle.builtins.specs.Fold.{answered, answeredTwice};
-ghost use Rattle.builtins.specs.Passed.{Passed, Passed2};
 
 pub fn frexp(v: Value) -> Answer
     requires { ⌜ Passed Taken.Floats v ⌝ }

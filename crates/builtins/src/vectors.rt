@@ -1,15 +1,15 @@
 // cross and dot of values: the lanes are the crate numeric's.
 use crate::Answer;
-use crate::Taken;
-use crate::Together;
+use calls::Taken;
+use calls::Together;
 use values::Kind;
 use values::Scalar;
 use values::Size;
 use values::Value;
 ghost use mathlib.Core.Path.{_≡_};
+ghost use Rattle.calls.specs.Passed.{Passed2};
 ghost use Rattle.builtins.specs.Numeric.{crossOf, dotOf};
 ghost use Rattle.builtins.specs.Fold.{answered};
-ghost use Rattle.builtins.specs.Passed.{Passed2};
 
 pub fn cross(a: Value, b: Value) -> Answer
     requires { ⌜ Passed2 (Taken.Only (Kind.Vec Size.Three Scalar.F32)) (Taken.Only (Kind.Vec Size.Three Scalar.F32)) Together.OneType a b ⌝ }

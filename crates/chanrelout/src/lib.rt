@@ -1,10 +1,45 @@
-// What a C or Rust program links: `rt staticlib chanrelout` writes target/staticlib/libchanrelout.a. Numbers pass as themselves.
+// What a C or Rust program links: `rt staticlib chanrelout` writes target/staticlib/libchanrelout.a. Numbers pass as themselves, a slice as a
+// pointer and a length. bindings/ has the C header and the Rust crate.
+mod words;
+
 ghost use mathlib.Core.Path.{_≡_};
+ghost use lib.ListN.{length};
 ghost use Rattle.half.specs.Convert.{halfOf, singleOf};
+ghost use Rattle.spelling.specs.Write.{put};
+ghost use Rattle.lines.specs.Line as text;
+ghost use Rattle.chanrelout.specs.Words.{lineNumber, refusalIn, writtenIn};
+
+// Folds a line of 01 into its answer, without newlines. Answers the refusal's number times 2^32, or the length of what was written.
+#[no_mangle]
+pub extern "C" fn chanrelout_line(line: &[u8], out: &mut [u8]) -> u64
+    ensures { λ r. ⌜ (r ≡ lineNumber (text.lineAnswer (length (now (out .entry))) (now (line .entry))))
+        × (now (out .exit) ≡ put (now (out .entry)) 0 (text.writtenIn (length (now (out .entry))) (now (line .entry)))) ⌝ }
+{
+    let a = lines::fold_line(line, out);
+    words::line_number(a)
+}
+
+// Folds a call of words into the words of its answer. Answers the refusal's number, 0 where there is none.
+#[no_mangle]
+pub extern "C" fn chanrelout_call(call: &[u64], out: &mut [u64]) -> u8
+    ensures { λ r. ⌜ (r ≡ refusalIn (length (now (out .entry))) (now (call .entry)))
+        × (now (out .exit) ≡ put (now (out .entry)) 0 (writtenIn (length (now (out .entry))) (now (call .entry)))) ⌝ }
+{
+    let a = builtins::fold(words::call_of(call));
+    if a.refusal != 0 {
+        return a.refusal;
+    }
+    if out.len() < 34 {
+        return 8;
+    }
+    words::put_value(out, 0, a.first);
+    words::put_value(out, 17, a.second);
+    0
+}
 
 // The half nearest to an f32, both as bits.
 #[no_mangle]
-pub extern "C" fn f32_to_f16(bits: u32) -> u16
+pub extern "C" fn chanrelout_f32_to_f16(bits: u32) -> u16
     ensures { λ r. ⌜ r ≡ halfOf bits ⌝ }
 {
     half::f32_to_f16(bits)
@@ -12,7 +47,7 @@ pub extern "C" fn f32_to_f16(bits: u32) -> u16
 
 // The f32 that a half is, both as bits.
 #[no_mangle]
-pub extern "C" fn f16_to_f32(bits: u16) -> u32
+pub extern "C" fn chanrelout_f16_to_f32(bits: u16) -> u32
     ensures { λ r. ⌜ r ≡ singleOf bits ⌝ }
 {
     half::f16_to_f32(bits)

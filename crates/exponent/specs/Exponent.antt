@@ -1,10 +1,10 @@
 -- The lanes of frexp and ldexp, as whole numbers: a float's size is counted in units of its format's least value above 0. Definitions only.
-use Prim.Native.Nat.{ℕ, suc, _+_, _-_, _*_, _/_, _%_, _^_}
+use Prim.Native.Nat.{ℕ, _+_, _-_, _*_, _/_, _%_, _^_}
 use mathlib.Core.Bool.{Bool, cond, _||_}
 use lib.Dec.{leb, ltb, eqb}
 use lib.IntN.{ℤ, pos, negsuc}
 use lib.Ieee.{size, up, down}
-use Rattle.half.specs.Format.{Format, f16, f32, top, infinity, nan, magnitude, negative, signed, isNan, lowest, units, pattern, magnitudeOf}
+use Rattle.half.specs.Format.{Format, f16, f32, infinity, nan, magnitude, negative, signed, isNan, lowest, units, pattern, magnitudeOf}
 use Rattle.values.specs.declared.Scalar.{Scalar}
 use Rattle.values.specs.declared.Scalar.the-variants.{Boolean, I32, U32, F32, F16}
 

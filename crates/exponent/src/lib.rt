@@ -2,7 +2,7 @@
 use values::Scalar;
 ghost use mathlib.Core.Path.{_≡_};
 ghost use mathlib.Core.Bool.{cond};
-ghost use Prim.Native.Nat.{suc, _+_, _*_, _^_, _≤_, _<_};
+ghost use Prim.Native.Nat.{_+_, _*_, _^_, _≤_, _<_};
 ghost use lib.Ieee.{up, down};
 ghost use Rattle.half.specs.Format.{f32, units, magnitudeOf};
 ghost use Rattle.values.specs.Four.{four, four2};

@@ -2,10 +2,10 @@
 -- Assumes nothing.
 use mathlib.Core.Path.{_≡_, sym, ap, _∙_}
 use mathlib.Core.Logic.{inl, inr}
-use Prim.Native.Nat.{ℕ, _+_, _-_, _*_, _^_, _≤_, _<_}
-use native.Mathlib.Nat.{mul-pos, mod-eq-of-lt, add-mod-left, mod-eq-sub-mod, suc-mul, zero-add}
+use Prim.Native.Nat.{ℕ, _+_, _-_, _*_, _/_, _^_, _≤_, _<_}
+use native.Mathlib.Nat.{mul-pos, mod-eq-of-lt, add-mod-left, mod-eq-sub-mod, suc-mul, zero-add, zero-mul, one-mul, div-eq-of-lt, le-div-iff-mul-le, div-lt-iff-lt-mul}
 use native.Mathlib.Omega.{arith}
-use mathlib.Core.Bool.{Bool, true, false}
+use mathlib.Core.Bool.{Bool, true, false, cond}
 use borrow.Author.Tests.{lt-leb, le-leb, ltb-false}
 use lib.Pow.{pow-pos, pow-mono, suc-ones}
 use Rattle.half.specs.Format.{Format, hidden, top, infinity, magnitude, negative, signed, isNan}
@@ -43,6 +43,18 @@ module _ (f : Format) where
       elim (split n (top f)) [
         | inl l ↦ ap (λ (s : Bool). signed f s (magnitude f n)) (lt-leb (top f) n l) ∙ omega (arith, mod-eq-of-lt l)
         | inr g ↦ ap (λ (s : Bool). signed f s (magnitude f n)) (le-leb (top f) n g) ∙ omega (arith, mod-eq-sub-mod g, mod-eq-of-lt {n = n - top f} {m = top f} (omega arith))
+      ]
+
+  -- the sign alone, moved to another format's place
+  pub sign-moved : (g : Format) (n : ℕ) → n < 2 * top f → n / top f * top g ≡ cond (negative f n) (top g) 0
+  sign-moved g n h =
+      elim (split n (top f)) [
+        | inl l ↦ rw (lt-leb (top f) n l, div-eq-of-lt l) (zero-mul (top g))
+        | inr k ↦
+            let once : 1 ≤ n / top f = le-div-iff-mul-le top-pos .1 (omega (arith, one-mul (top f))) in
+            let below : n / top f < 2 = div-lt-iff-lt-mul top-pos .1 h in
+            let e : n / top f ≡ 1 = omega (arith, once, below) in
+            rw (le-leb (top f) n k, e) (one-mul (top g))
       ]
 
   pub number : (n : ℕ) → isNan f n ≡ false → magnitude f n ≤ infinity f

@@ -38,28 +38,24 @@ pub fn f32_to_f16(n: u32) -> u16
     if m > 0x7f80_0000 {
         return 0x7e00;
     }
-    let h = half_magnitude(m);
-    if n < 0x8000_0000 {
-        h as u16
-    } else {
-        (0x8000 + h) as u16
-    }
+    (n / 0x8000_0000 * 0x8000 + half_magnitude(m)) as u16
 }
 
 // Exact. A normal half's digits move up by 13 and its exponent's field by 112. A subnormal's first digit becomes the leading one.
 fn single_magnitude(m: u32) -> u32
     ensures { λ r. ⌜ r ≡ convertedMagnitude f16 f32 m ⌝ }
 {
-    if m >= 0x7c00 {
-        0x7f80_0000
-    } else if m >= 1024 {
-        m * 8192 + 0x3800_0000
-    } else if m == 0 {
-        0
-    } else {
-        let l = u32::leading_zeros(m);
-        (133 - l) * 0x80_0000 + (m << (l - 8))
+    if m >= 1024 {
+        if m < 0x7c00 {
+            return m * 8192 + 0x3800_0000;
+        }
+        return 0x7f80_0000;
     }
+    if m == 0 {
+        return 0;
+    }
+    let l = u32::leading_zeros(m);
+    (133 - l) * 0x80_0000 + (m << (l - 8))
 }
 
 // The sign stands in front of the f32's magnitude. Every NaN is 7FC00000.
@@ -70,6 +66,5 @@ pub fn f16_to_f32(h: u16) -> u32
     if m > 0x7c00 {
         return 0x7fc0_0000;
     }
-    let s = single_magnitude(m);
-    if h < 0x8000 { s } else { 0x8000_0000 + s }
+    (h / 0x8000) as u32 * 0x8000_0000 + single_magnitude(m)
 }

@@ -1,3 +1,4 @@
 pub mod Tabs
 pub mod NamePlaces
+pub mod NameSlots
 pub mod Written

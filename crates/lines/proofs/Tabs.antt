@@ -1,28 +1,27 @@
--- The first field ends at the first tab, and the others are those of what follows it: by induction on the line. Assumes nothing.
-use Prim.Native.Nat.{ℕ, zero, suc, _+_, _-_, _<_}
+-- The first field ends at the first tab, and the others are those of what follows it: by induction on the line. So fields taken off one after another are the line's,
+-- and the tabs that end them, with those that follow the last, are all its tabs. Assumes nothing.
+use Prim.Native.Nat.{ℕ, zero, suc, _+_, _<_, _≤_}
 use mathlib.Core.List.{List, [], _∷_}
 use mathlib.Core.Bool.{Bool, true, false, cond}
-use mathlib.Core.Path.{_≡_, refl, ap}
+use mathlib.Core.Path.{_≡_, refl, ap, sym, _∙_}
+use native.Mathlib.Nat.{zero-add}
 use native.Mathlib.Numerals.{add-one}
 use native.Mathlib.Omega.{arith}
-use lib.ListN.{length, take, drop, getD}
-use lib.Seq.{drop-cons, drop-length}
+use lib.ListN.{length, take, drop, getD, drop-of-length-le}
+use lib.Seq.{drop-cons, drop-length, length-take-le}
 use lib.Dec.{ltb, eqb, leb·suc-suc}
-use borrow.Author.Tests.{eq-eqb, ne-eqb, lt-ltb, le-ltb}
-use Rattle.lines.specs.Fields.{tabAt, fields, fieldAt, onFirst, argumentCount}
+use borrow.Author.Tests.{lt-ltb, ltb-false}
+use Rattle.spelling.specs.Text.{placeOf}
+use Rattle.spelling.proofs.FirstPlace.{place-le}
+use Rattle.lines.specs.Fields.{tab, fields, fieldAt, onFirst, argumentCount}
 
-module _ (s : List ℕ) (i : ℕ) (h : i < length s) where
-  pub tab-hit : getD s i 0 ≡ 9 → tabAt (drop i s) ≡ 0
-  unfolding tabAt
-  tab-hit e = rw (drop-cons s i 0 h, eq-eqb _ _ e)
+-- where the first tab stands, or the length
+abbrev pub tabAt : List ℕ → ℕ
+tabAt = placeOf tab
 
-  pub tab-miss : (getD s i 0 ≡ 9 → ⊥) → tabAt (drop i s) ≡ suc (tabAt (drop (i + 1) s))
-  unfolding tabAt
-  tab-miss e = rw (drop-cons s i 0 h, ne-eqb _ _ e, add-one)
-
-pub tab-end : (s : List ℕ) → tabAt (drop (length s) s) ≡ 0
-unfolding tabAt
-tab-end s = rw drop-length
+-- what follows the first tab
+abbrev rest : List ℕ → List ℕ
+rest s = drop (tabAt s + 1) s
 
 ltb-ss : (a b : ℕ) → ltb (suc a) (suc b) ≡ ltb a b
 ltb-ss a b = leb·suc-suc (suc a) b
@@ -36,29 +35,34 @@ cut-by x xs true ih = rw (lt-ltb 0 (suc (length xs)) (omega arith))
 cut-by x xs false ih = rw (ltb-ss (tabAt xs) (length xs)) (ap (onFirst x) ih)
 
 -- the first field ends at the first tab, and the others are those of what follows it
-pub cut : (s : List ℕ) → fields s ≡ take (tabAt s) s ∷ cond (ltb (tabAt s) (length s)) (fields (drop (suc (tabAt s)) s)) []
-unfolding fields tabAt
+cut : (s : List ℕ) → fields s ≡ take (tabAt s) s ∷ cond (ltb (tabAt s) (length s)) (fields (drop (suc (tabAt s)) s)) []
+unfolding fields placeOf
 cut [] = refl
-cut (x ∷ xs) = cut-by x xs (eqb x 9) (cut xs)
+cut (x ∷ xs) = cut-by x xs (eqb x tab) (cut xs)
 
 -- field 0 is what stands before the first tab
 pub field-here : (s : List ℕ) → fieldAt s 0 ≡ take (tabAt s) s
 unfolding fieldAt
 field-here s = rw (cut s)
 
--- past the last tab there is no field
-pub field-none : (s : List ℕ) (k : ℕ) → 0 < k → tabAt s ≡ length s → fieldAt s k ≡ []
-unfolding fieldAt
-field-none s zero h e = absurd (omega arith)
-field-none s (suc k) h e = rw (cut s, le-ltb (tabAt s) (length s) (omega (arith, e)))
+-- and its length says where that is
+field-length : (s : List ℕ) → length (fieldAt s 0) ≡ tabAt s
+field-length s = rw (field-here s) (length-take-le (tabAt s) s (place-le tab s))
 
--- a later field is one of what follows the first tab
-pub field-next : (s : List ℕ) (k : ℕ) → 0 < k → tabAt s < length s → fieldAt s k ≡ fieldAt (drop (tabAt s + 1) s) (k - 1)
-unfolding fieldAt
-field-next s zero h t = absurd (omega arith)
-field-next s (suc k) h t =
-    let e : suc k - 1 ≡ k = omega arith in
-    rw (e, add-one, cut s, lt-ltb (tabAt s) (length s) t)
+-- a later field is one of what follows the first tab; past the last tab both are empty
+field-next : (s : List ℕ) (k : ℕ) → fieldAt s (suc k) ≡ fieldAt (rest s) k
+unfolding fieldAt fields
+field-next s k = by (ltb (tabAt s) (length s)) refl
+  where
+    empty : (k : ℕ) → fieldAt [] k ≡ []
+    empty zero = refl
+    empty (suc k) = refl
+
+    by : (t : Bool) → ltb (tabAt s) (length s) ≡ t → getD (fields s) (suc k) [] ≡ getD (fields (rest s)) k []
+    by true e = rw (cut s, e, add-one)
+    by false e =
+        let d : rest s ≡ [] = drop-of-length-le s {i = tabAt s + 1} (omega (arith, ltb-false (tabAt s) (length s) e)) in
+        rw (cut s, e, d) (sym (empty k))
 
 -- a byte more is counted
 pub count-step : (s : List ℕ) (i x : ℕ) → i < length s → x ≡ cond (eqb (getD s i 0) 9) 1 0 → argumentCount (drop i s) ≡ x + argumentCount (drop (i + 1) s)
@@ -68,3 +72,70 @@ count-step s i x h e = rw (e, drop-cons s i 0 h, add-one)
 pub count-end : (s : List ℕ) → argumentCount (drop (length s) s) ≡ 0
 unfolding argumentCount
 count-end s = rw drop-length
+
+count-by : (b : Bool) (x : ℕ) (xs : List ℕ)
+    → argumentCount xs ≡ cond (ltb (tabAt xs) (length xs)) 1 0 + argumentCount (drop (suc (tabAt xs)) xs)
+    → cond b 1 0 + argumentCount xs
+    ≡ cond (ltb (cond b 0 (suc (tabAt xs))) (suc (length xs))) 1 0 + argumentCount (drop (suc (cond b 0 (suc (tabAt xs)))) (x ∷ xs))
+count-by true x xs ih = rw (lt-ltb 0 (suc (length xs)) (omega arith))
+count-by false x xs ih = rw (ltb-ss (tabAt xs) (length xs)) (zero-add (argumentCount xs) ∙ ih)
+
+-- the first tab is counted, and those that follow it
+count-next : (s : List ℕ) → argumentCount s ≡ cond (ltb (tabAt s) (length s)) 1 0 + argumentCount (rest s)
+unfolding argumentCount placeOf
+count-next s = rw add-one (go s)
+  where
+    go : (s : List ℕ) → argumentCount s ≡ cond (ltb (tabAt s) (length s)) 1 0 + argumentCount (drop (suc (tabAt s)) s)
+    go [] = refl
+    go (x ∷ xs) = count-by (eqb x tab) x xs (go xs)
+
+-- no more tabs than bytes
+pub count-most : (s : List ℕ) → argumentCount s ≤ length s
+unfolding argumentCount
+count-most [] = omega arith
+count-most (x ∷ xs) = by (eqb x tab) (count-most xs)
+  where
+    by : (t : Bool) → argumentCount xs ≤ length xs → cond t 1 0 + argumentCount xs ≤ suc (length xs)
+    by true ih = omega arith
+    by false ih = omega arith
+
+-- ---- fields taken off a line, one after another
+
+-- f is the first field of t, and u what follows it
+abbrev Off : List ℕ → List ℕ → List ℕ → Type 0
+Off t f u = (f ≡ fieldAt t 0) × (u ≡ drop (length f + 1) t)
+
+module _ (t f u : List ℕ) (o : Off t f u) where
+  ends : length f ≡ tabAt t
+  ends = ap length (o .0) ∙ field-length t
+
+  left : u ≡ rest t
+  left = o .1 ∙ ap (λ (n : ℕ). drop (n + 1) t) ends
+
+  next : (k : ℕ) → fieldAt u k ≡ fieldAt t (suc k)
+  next k = rw left (sym (field-next t k))
+
+  counted : cond (ltb (length f) (length t)) 1 0 + argumentCount u ≡ argumentCount t
+  counted = rw (left, ends) (sym (count-next t))
+
+-- a line's first four fields, and a number that is its number of tabs
+pub record Apart (line name first second third : List ℕ) (n : ℕ) : Type 0 where
+  pub field-0 : name ≡ fieldAt line 0
+  pub field-1 : first ≡ fieldAt line 1
+  pub field-2 : second ≡ fieldAt line 2
+  pub field-3 : third ≡ fieldAt line 3
+  pub tabs : n ≡ argumentCount line
+
+module _ (line name first second third t1 t2 t3 t4 : List ℕ) (o : Off line name t1) (p : Off t1 first t2) (q : Off t2 second t3) (r : Off t3 third t4) where
+  pub apart : (a b c d n : ℕ) → a ≡ cond (ltb (length name) (length line)) 1 0 → b ≡ cond (ltb (length first) (length t1)) 1 0
+      → c ≡ cond (ltb (length second) (length t2)) 1 0 → d ≡ cond (ltb (length third) (length t3)) 1 0 → n ≡ argumentCount t4
+      → Apart line name first second third (a + b + c + d + n)
+  apart a b c d n ea eb ec ed en =
+      let second-of : (k : ℕ) → fieldAt t2 k ≡ fieldAt line (suc (suc k)) = λ k. next t1 first t2 p k ∙ next line name t1 o (suc k) in
+      record {
+        field-0 = o .0;
+        field-1 = p .0 ∙ next line name t1 o 0;
+        field-2 = q .0 ∙ second-of 0;
+        field-3 = r .0 ∙ next t2 second t3 q 0 ∙ second-of 1;
+        tabs = omega (arith, counted line name t1 o, counted t1 first t2 p, counted t2 second t3 q, counted t3 third t4 r);
+      }

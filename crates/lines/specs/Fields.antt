@@ -1,5 +1,5 @@
 -- A line's fields: 01, "Fields are parted by one tab". Definitions only.
-use Prim.Native.Nat.{ℕ, suc, _+_}
+use Prim.Native.Nat.{ℕ, _+_}
 use mathlib.Core.Bool.{cond}
 use mathlib.Core.List.{List, [], _∷_}
 use lib.Dec.{eqb}
@@ -25,8 +25,3 @@ fieldAt s k = getD (fields s) k []
 unfoldable pub argumentCount : List ℕ → ℕ
 argumentCount [] = 0
 argumentCount (x ∷ xs) = cond (eqb x tab) 1 0 + argumentCount xs
-
--- where the first tab stands, or the length
-unfoldable pub tabAt : List ℕ → ℕ
-tabAt [] = 0
-tabAt (x ∷ xs) = cond (eqb x tab) 0 (suc (tabAt xs))

@@ -8,9 +8,9 @@ use Rattle.values.specs.declared.Kind.{Kind}
 use Rattle.values.specs.declared.Kind.the-variants.{Empty}
 use Rattle.values.specs.declared.Value.{Value}
 use Rattle.values.specs.Value.{emptyValue, isType}
-use Rattle.builtins.specs.declared.Builtin.{Builtin}
-use Rattle.builtins.specs.declared.Builtin.the-variants.{Bitcast}
-use Rattle.builtins.specs.declared.Call.{Call}
+use Rattle.calls.specs.declared.Builtin.{Builtin}
+use Rattle.calls.specs.declared.Builtin.the-variants.{Bitcast}
+use Rattle.calls.specs.declared.Call.{Call}
 use Rattle.builtins.specs.declared.Answer.{Answer}
 use Rattle.builtins.specs.Fold.{refused, foldOf}
 use Rattle.spelling.specs.Text.{sameBytes}

@@ -1,9 +1,9 @@
 -- The builtins' names: those of 01's table. Definitions only.
-use Prim.Native.Nat.{ℕ, _+_}
-use mathlib.Core.List.{List, [], _∷_, _++_}
-use lib.ListN.{length, getD}
-use Rattle.builtins.specs.declared.Builtin.{Builtin}
-use Rattle.builtins.specs.declared.Builtin.the-variants.{All, Any, Select, Abs, Sign, CountLeadingZeros, CountOneBits, CountTrailingZeros, Min, Max, Clamp, Saturate, Step, Cross, Dot, Transpose, Frexp, Ldexp, Bitcast, Pack4x8snorm, Pack4x8unorm, Pack4xI8, Pack4xI8Clamp, Pack4xU8, Pack4xU8Clamp, Pack2x16snorm, Pack2x16unorm, Pack2x16float, Unpack4x8snorm, Unpack4x8unorm, Unpack4xI8, Unpack4xU8, Unpack2x16snorm, Unpack2x16unorm, Unpack2x16float, Unknown}
+use Prim.Native.Nat.{ℕ}
+use mathlib.Core.List.{List, []}
+use Rattle.calls.specs.declared.Builtin.{Builtin}
+use Rattle.calls.specs.declared.Builtin.the-variants.{All, Any, Select, Abs, Sign, CountLeadingZeros, CountOneBits, CountTrailingZeros, Min, Max, Clamp, Saturate, Step, Cross, Dot, Transpose, Frexp, Ldexp, Bitcast, Pack4x8snorm, Pack4x8unorm, Pack4xI8, Pack4xI8Clamp, Pack4xU8, Pack4xU8Clamp, Pack2x16snorm, Pack2x16unorm, Pack2x16float, Unpack4x8snorm, Unpack4x8unorm, Unpack4xI8, Unpack4xU8, Unpack2x16snorm, Unpack2x16unorm, Unpack2x16float, Unknown}
+use Rattle.calls.specs.Table.{builtins}
 use Rattle.spelling.specs.Text.{bytes, firstSpelled}
 
 abbrev pub nameOf : Builtin → List ℕ
@@ -44,28 +44,6 @@ nameOf Unpack2x16unorm = bytes "unpack2x16unorm"
 nameOf Unpack2x16float = bytes "unpack2x16float"
 nameOf Unknown = []
 
-abbrev pub builtins : List Builtin
-builtins =
-    All ∷ Any ∷ Select ∷ Abs ∷ Sign ∷ CountLeadingZeros ∷ CountOneBits
-    ∷ CountTrailingZeros ∷ Min ∷ Max ∷ Clamp ∷ Saturate ∷ Step ∷ Cross
-    ∷ Dot ∷ Transpose ∷ Frexp ∷ Ldexp ∷ Bitcast ∷ Pack4x8snorm ∷ Pack4x8unorm
-    ∷ Pack4xI8 ∷ Pack4xI8Clamp ∷ Pack4xU8 ∷ Pack4xU8Clamp ∷ Pack2x16snorm ∷ Pack2x16unorm ∷ Pack2x16float
-    ∷ Unpack4x8snorm ∷ Unpack4x8unorm ∷ Unpack4xI8 ∷ Unpack4xU8 ∷ Unpack2x16snorm ∷ Unpack2x16unorm ∷ Unpack2x16float ∷ []
-
 -- Unknown where no builtin has that name
 unfoldable pub builtinOf : List ℕ → Builtin
 builtinOf s = firstSpelled nameOf Unknown builtins s
-
--- ---- how the program finds it: all names one after another. No statement of what is read rests on this.
-
--- where each name starts, the first at n, and where the last ends
-abbrev pub startsFrom : ℕ → List Builtin → List ℕ
-startsFrom n [] = n ∷ []
-startsFrom n (b ∷ bs) = n ∷ startsFrom (n + length (nameOf b)) bs
-
-unfoldable pub start : ℕ → ℕ
-start i = getD (startsFrom 0 builtins) i 0
-
-abbrev pub namesOf : List Builtin → List ℕ
-namesOf [] = []
-namesOf (b ∷ bs) = nameOf b ++ namesOf bs

@@ -1,47 +1,30 @@
-// A line's fields.
+// A line's fields, taken off one after another.
 ghost use mathlib.Core.Path.{_≡_};
-ghost use Prim.Native.Nat.{_≤_};
+ghost use Prim.Native.Nat.{_+_, _≤_};
 ghost use mathlib.Core.Bool.{cond};
-ghost use lib.Dec.{eqb};
-ghost use lib.ListN.{length};
-ghost use Rattle.lines.specs.Fields.{tab, fieldAt, argumentCount, tabAt};
+ghost use lib.ListN.{drop};
+ghost use Rattle.lines.specs.Fields.{fieldAt, argumentCount};
 
-// Where the first tab stands, or the length.
-fn find_tab(s: &[u8]) -> usize
-    ensures { λ r. ⌜ (r ≡ tabAt (now (s .entry))) × (r ≤ length (now (s .entry))) ⌝ }
+// The first field of what is left of a line: the part before its first tab.
+pub fn field(t: &[u8]) -> &[u8]
+    ensures { λ r. ⌜ now r ≡ fieldAt (now (t .entry)) 0 ⌝ }
 {
-    let mut i = 0;
-    while i < s.len() {
-        if s[i] == b'\t' {
-            return i;
-        }
-        i += 1;
-    }
-    i
-}
-
-// Field k of a line: the part between its tabs, and the empty part where there is none.
-pub fn field(line: &[u8], k: usize) -> &[u8]
-    ensures { λ r. ⌜ now r ≡ fieldAt (now (line .entry)) k ⌝ }
-{
-    let mut t = line;
-    let mut left = k;
-    while left > 0 {
-        let n = find_tab(t);
-        if n == t.len() {
-            return &t[n..n];
-        }
-        t = &t[n + 1..];
-        left -= 1;
-    }
-    let n = find_tab(t);
+    let n = spelling::find(t, b'\t');
     &t[0..n]
 }
 
-fn tab_here(b: u8) -> usize
-    ensures { λ r. ⌜ (r ≡ cond (eqb b tab) 1 0) × (r ≤ 1) ⌝ }
+// What follows a first field of n bytes and its tab: the empty part where there is no tab.
+pub fn after(t: &[u8], n: usize) -> &[u8]
+    ensures { λ r. ⌜ now r ≡ drop (n + 1) (now (t .entry)) ⌝ }
 {
-    if b == b'\t' { 1 } else { 0 }
+    if n < t.len() { &t[n + 1..] } else { &t[0..0] }
+}
+
+// 1 where a test holds, 0 where it fails.
+pub fn one_if(test: bool) -> usize
+    ensures { λ r. ⌜ (r ≡ cond test 1 0) × (r ≤ 1) ⌝ }
+{
+    if test { 1 } else { 0 }
 }
 
 // How many arguments a line has: as many as tabs.
@@ -51,7 +34,7 @@ pub fn argument_count(line: &[u8]) -> usize
     let mut n: usize = 0;
     let mut i = 0;
     while i < line.len() {
-        n += tab_here(line[i]);
+        n += one_if(line[i] == b'\t');
         i += 1;
     }
     n

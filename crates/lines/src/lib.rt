@@ -1,20 +1,23 @@
 // A line folded: its fields, the call that they spell, and the answer written into lent memory.
 use builtins::Answer;
-use builtins::Builtin;
-use builtins::Call;
+use calls::Builtin;
+use calls::Call;
 use values::Kind;
 use values::Value;
 ghost use mathlib.Core.Path.{_≡_};
-ghost use Prim.Native.Nat.{_+_, _≤_};
+ghost use Prim.Native.Nat.{ℕ, _+_, _≤_};
+ghost use mathlib.Core.List.{List};
 ghost use lib.ListN.{length};
+ghost use Rattle.spelling.specs.Read.{readValue};
 ghost use Rattle.spelling.specs.Write.{put};
-ghost use Rattle.lines.specs.Line.{valueAt, typeAt, castCall, plainCall, callOf, lineOf, secondText, lineAnswer, writtenIn};
+ghost use Rattle.lines.specs.Fields.{fieldAt};
+ghost use Rattle.lines.specs.Line.{castCall, plainCall, callOf, lineOf, secondText, lineAnswer, writtenIn};
 
 mod fields;
 mod names;
 
 // A longer line is refused.
-const MOST_BYTES: usize = 400;
+pub const MOST_BYTES: usize = 400;
 
 // A line's answer in lent memory: its length, or the number of the refusal.
 pub struct LineAnswer {
@@ -24,55 +27,75 @@ pub struct LineAnswer {
 
 // ---- the call that a line spells
 
-fn value_at(line: &[u8], k: usize) -> Value
-    ensures { λ r. ⌜ r ≡ valueAt (now (line .entry)) k ⌝ }
+fn value_in(field: &[u8]) -> Value
+    ensures { λ r. ⌜ r ≡ readValue (now (field .entry)) .value ⌝ }
 {
-    let reading = spelling::read_value(fields::field(line, k));
+    let reading = spelling::read_value(field);
     reading.value
 }
 
-fn type_at(line: &[u8], k: usize) -> Kind
-    ensures { λ r. ⌜ r ≡ typeAt (now (line .entry)) k ⌝ }
+// The same, where an empty field is not read.
+fn value_or_none(field: &[u8]) -> Value
+    ensures { λ r. ⌜ r ≡ readValue (now (field .entry)) .value ⌝ }
 {
-    spelling::type_of(fields::field(line, k))
+    if field.len() == 0 {
+        values::empty()
+    } else {
+        value_in(field)
+    }
 }
 
-fn cast_call(b: Builtin, n: usize, line: &[u8]) -> Call
-    ensures { λ r. ⌜ r ≡ castCall b n (now (line .entry)) ⌝ }
+// The call of bitcast on a line with these fields after its name.
+fn cast_call(b: Builtin, n: usize, first: &[u8], second: &[u8]) -> Call
+    ensures { λ r. ⌜ ((line : List ℕ) → now (first .entry) ≡ fieldAt line 1 → now (second .entry) ≡ fieldAt line 2 → r ≡ castCall b n line) ⌝ }
 {
     Call {
         builtin: b,
         count: n,
-        target: type_at(line, 1),
-        a: value_at(line, 2),
+        target: spelling::type_of(first),
+        a: value_in(second),
         b: values::empty(),
         c: values::empty(),
     }
 }
 
-fn plain_call(b: Builtin, n: usize, line: &[u8]) -> Call
-    ensures { λ r. ⌜ r ≡ plainCall b n (now (line .entry)) ⌝ }
+// The call of any other builtin on a line with these fields after its name.
+fn plain_call(b: Builtin, n: usize, first: &[u8], second: &[u8], third: &[u8]) -> Call
+    ensures { λ r. ⌜ ((line : List ℕ) → now (first .entry) ≡ fieldAt line 1 → now (second .entry) ≡ fieldAt line 2
+        → now (third .entry) ≡ fieldAt line 3 → r ≡ plainCall b n line) ⌝ }
 {
     Call {
         builtin: b,
         count: n,
         target: Kind::Empty,
-        a: value_at(line, 1),
-        b: value_at(line, 2),
-        c: value_at(line, 3),
+        a: value_in(first),
+        b: value_or_none(second),
+        c: value_or_none(third),
     }
 }
 
+// Each field is taken off what the one before it left; one that is shorter than what it was taken off ends in a tab.
 fn call_of(line: &[u8]) -> Call
     ensures { λ r. ⌜ r ≡ callOf (now (line .entry)) ⌝ }
 {
-    let name = fields::field(line, 0);
+    let name = fields::field(line);
+    let t1 = fields::after(line, name.len());
+    let first = fields::field(t1);
+    let t2 = fields::after(t1, first.len());
+    let second = fields::field(t2);
+    let t3 = fields::after(t2, second.len());
+    let third = fields::field(t3);
+    let t4 = fields::after(t3, third.len());
+    let n = fields::one_if(name.len() < line.len())
+        + fields::one_if(first.len() < t1.len())
+        + fields::one_if(second.len() < t2.len())
+        + fields::one_if(third.len() < t3.len())
+        + fields::argument_count(t4);
     let b = names::builtin_of(name);
-    let n = fields::argument_count(line);
     if spelling::same(b"bitcast", name) {
-        cast_call(b, n, line)
+        cast_call(b, n, first, second)
     } else {
-        plain_call(b, n, line)
+        plain_call(b, n, first, second, third)
     }
 }
 

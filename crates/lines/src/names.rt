@@ -1,55 +1,18 @@
 // The builtins' names, read.
-use builtins::Builtin;
+use calls::Builtin;
 ghost use mathlib.Core.Path.{_≡_};
-ghost use Prim.Native.Nat.{_<_};
-ghost use lib.ListN.{getD};
+ghost use Prim.Native.Nat.{_-_, _<_};
+ghost use Rattle.calls.specs.Table.{builtinAt};
 ghost use Rattle.spelling.specs.Text.{sameBytes};
-ghost use Rattle.lines.specs.Names.{nameOf, builtins, builtinOf, start};
+ghost use Rattle.lines.specs.Names.{nameOf, builtinOf};
+ghost use Rattle.lines.specs.Slots.{start, slot, place};
 
-// The builtins of 01's table, in its order.
-const BUILTINS: [Builtin; 35] = [
-    Builtin::All,
-    Builtin::Any,
-    Builtin::Select,
-    Builtin::Abs,
-    Builtin::Sign,
-    Builtin::CountLeadingZeros,
-    Builtin::CountOneBits,
-    Builtin::CountTrailingZeros,
-    Builtin::Min,
-    Builtin::Max,
-    Builtin::Clamp,
-    Builtin::Saturate,
-    Builtin::Step,
-    Builtin::Cross,
-    Builtin::Dot,
-    Builtin::Transpose,
-    Builtin::Frexp,
-    Builtin::Ldexp,
-    Builtin::Bitcast,
-    Builtin::Pack4x8snorm,
-    Builtin::Pack4x8unorm,
-    Builtin::Pack4xI8,
-    Builtin::Pack4xI8Clamp,
-    Builtin::Pack4xU8,
-    Builtin::Pack4xU8Clamp,
-    Builtin::Pack2x16snorm,
-    Builtin::Pack2x16unorm,
-    Builtin::Pack2x16float,
-    Builtin::Unpack4x8snorm,
-    Builtin::Unpack4x8unorm,
-    Builtin::Unpack4xI8,
-    Builtin::Unpack4xU8,
-    Builtin::Unpack2x16snorm,
-    Builtin::Unpack2x16unorm,
-    Builtin::Unpack2x16float,
-];
-
-// Their names, one after another, and where each starts.
+// The names of the builtins, one after another, and where each starts by the builtin's number; Unknown's, the first, is empty.
 const TEXT: [u8; 321] =
     *b"allanyselectabssigncountLeadingZeroscountOneBitscountTrailingZerosminmaxclampsaturatestepcrossdottransposefrexpldexpbitcastpack4x8snormpack4x8unormpack4xI8pack4xI8Clamppack4xU8pack4xU8Clamppack2x16snormpack2x16unormpack2x16floatunpack4x8snormunpack4x8unormunpack4xI8unpack4xU8unpack2x16snormunpack2x16unormunpack2x16float";
 
-const STARTS: [usize; 36] = [
+const STARTS: [u16; 37] = [
+    0,
     0,
     3,
     6,
@@ -88,24 +51,61 @@ const STARTS: [usize; 36] = [
     321,
 ];
 
-fn builtin_at(i: usize) -> Builtin
-    requires { ⌜ i < 35 ⌝ }
-    ensures { λ r. ⌜ r ≡ getD builtins i Builtin.All ⌝ }
+// At each slot the number of the one builtin whose name has it, and 0, Unknown's, where none has.
+const PLACES: [u8; 128] =
+    *b"\x02\x1d\0\x0a\0\x06\x07\x08\0\0\0\x09\0\0\0\x15\0\0\x12\x1e\0\0\0\0\0\0\0\x0b\0\0\0\0\0\x0e\0\0\x1c\x0f\0\0\x23\0\x1a\0\0\0\x21\0\0\0\0\x10\0\0\0\0\0\0\0\x13\x1b\x17\0\x16\x22\0\0\x1f\x0c\0\0\0\0\0\x11\x18\0\0\0\x20\0\x0d\0\x05\0\x03\0\0\0\0\0\0\0\0\0\0\0\x19\0\0\0\0\0\0\0\0\0\0\0\0\0\0\0\0\0\0\x04\0\0\0\0\0\0\0\0\x14\x01\0";
+
+// A slot that no name has.
+const FREE: usize = 127;
+
+fn wide(x: u8) -> usize
+    ensures { λ r. ⌜ (r ≡ x) × (r < 256) ⌝ }
 {
-    BUILTINS[i]
+    x as usize
+}
+
+fn wide_start(x: u16) -> usize
+    ensures { λ r. ⌜ r ≡ x ⌝ }
+{
+    x as usize
 }
 
 fn start_of(i: usize) -> usize
-    requires { ⌜ i < 36 ⌝ }
+    requires { ⌜ i < 37 ⌝ }
     ensures { λ r. ⌜ r ≡ start i ⌝ }
 {
-    STARTS[i]
+    wide_start(STARTS[i])
 }
 
-// Whether s is the name of the builtin at a place.
+fn place_at(h: usize) -> usize
+    requires { ⌜ h < 128 ⌝ }
+    ensures { λ r. ⌜ (r ≡ place h) × (r < 36) ⌝ }
+{
+    wide(PLACES[h])
+}
+
+// A place k from the end of n bytes, or the first.
+fn back(n: usize, k: usize) -> usize
+    ensures { λ r. ⌜ r ≡ n - k ⌝ }
+{
+    if n < k { 0 } else { n - k }
+}
+
+// The slot of a name. The places and the factors were found by trial: with them no two names share a slot.
+fn slot_of(s: &[u8]) -> usize
+    ensures { λ r. ⌜ (r ≡ slot (now (s .entry))) × (r < 128) ⌝ }
+{
+    let n = s.len();
+    if n < 3 {
+        return FREE;
+    }
+    (2 * (n % 64) + wide(s[n - 2]) + 9 * wide(s[back(n, 5)]) + 3 * wide(s[back(n, 7)])) % 128
+}
+
+// Whether s is the name of the builtin of a number.
 fn named(i: usize, s: &[u8]) -> bool
-    requires { ⌜ i < 35 ⌝ }
-    ensures { λ r. ⌜ r ≡ sameBytes (nameOf (getD builtins i Builtin.All)) (now (s .entry)) ⌝ }
+    requires { ⌜ i < 36 ⌝ }
+    ensures { λ r. ⌜ r ≡ sameBytes (nameOf (builtinAt i)) (now (s .entry)) ⌝ }
 {
     let start = start_of(i);
     let end = start_of(i + 1);
@@ -113,16 +113,14 @@ fn named(i: usize, s: &[u8]) -> bool
     spelling::same(&text[start..end], s)
 }
 
-// The builtin of a name, Unknown where there is none.
+// The builtin of a name, Unknown where there is none: only the one that has the name's slot can have the name.
 pub fn builtin_of(s: &[u8]) -> Builtin
     ensures { λ r. ⌜ r ≡ builtinOf (now (s .entry)) ⌝ }
 {
-    let mut i = 0;
-    while i < 35 {
-        if named(i, s) {
-            return builtin_at(i);
-        }
-        i += 1;
+    let i = place_at(slot_of(s));
+    if named(i, s) {
+        calls::builtin_at(i as u64)
+    } else {
+        Builtin::Unknown
     }
-    Builtin::Unknown
 }

@@ -1,6 +1,6 @@
 -- The lanes of abs, sign, the counts, min, max, clamp, saturate, step, cross and dot: 01, "Rules of evaluation". Definitions only.
 -- A lane function goes by the scalar. Where 01's table leaves a scalar out, no call comes that far, and the lane stays.
-use Prim.Native.Nat.{ℕ, zero, suc, _+_, _-_, _*_, _/_, _%_, _^_, min}
+use Prim.Native.Nat.{ℕ, zero, suc, _+_, _-_, _*_, _%_, _^_, min}
 use mathlib.Core.Bool.{cond}
 use mathlib.Core.List.{List, [], _∷_, reverse}
 use lib.Dec.{ltb, eqb}

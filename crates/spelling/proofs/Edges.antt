@@ -5,11 +5,11 @@ use mathlib.Core.Bool.{Bool, true, _&&_}
 use mathlib.Core.List.{List, [], _∷_}
 use mathlib.Core.Path.{_≡_, refl}
 use lib.Dec.{eqb}
-use Rattle.spelling.specs.Text.{firstSpelled, bytes, sameBytes}
+use Rattle.spelling.specs.Text.{firstSpelled, bytes, sameBytes, placeOf}
 use Rattle.values.specs.Value.{emptyValue, value}
 use Rattle.spelling.specs.Types.{kindOf}
 use Rattle.spelling.specs.declared.Reading.{Reading}
-use Rattle.spelling.specs.Read.{faultNumber, readValue, readLanes, lanesAt, colonAt, wrong, found}
+use Rattle.spelling.specs.Read.{faultNumber, readValue, readLanes, lanesAt, wrong, found}
 
 -- a spelling, its fault's number and the place
 pub data Case : Type 0 where
@@ -60,5 +60,5 @@ edges =
     ∷ []
 
 pub edges-right : right edges ≡ true
-unfolding right edges readValue readLanes lanesAt colonAt kindOf firstSpelled sameBytes wrong found emptyValue value
+unfolding right edges readValue readLanes lanesAt placeOf kindOf firstSpelled sameBytes wrong found emptyValue value
 edges-right = refl

@@ -1,14 +1,14 @@
 -- What is written is read back: `readValue (textOf v)` gives v, for every well-formed v. Digit by digit, then lane by lane; the type is found because no type's spelling has a colon. Assumes nothing.
-use Prim.Native.Nat.{ℕ, zero, suc, _+_, _*_, _-_, _/_, _%_, _<_, _^_}
+use Prim.Native.Nat.{ℕ, zero, suc, _+_, _-_, _/_, _%_, _<_, _^_}
 use mathlib.Core.List.{List, [], _∷_, _++_}
-use mathlib.Core.Bool.{Bool, true, not}
+use mathlib.Core.Bool.{true}
 use mathlib.Core.Path.{_≡_, refl, ap, sym, _∙_}
 use native.Mathlib.Nat.{div-eq-of-lt, mod-lt, add-zero, div-le-self, mod-le}
 use native.Mathlib.Omega.{arith}
 use lib.ListN.{length, length-append}
 use lib.Seq.{take-append-seam, drop-append-add, length-take-le}
-use lib.Dec.{ltb, eqb, eqb·suc-zero}
-use borrow.Author.Tests.{lt-ltb, ltb-true, not-true}
+use lib.Dec.{ltb, eqb·suc-zero}
+use borrow.Author.Tests.{lt-ltb, ltb-true}
 use Rattle.values.specs.Value.{laneBits, laneCount, scalarOf, lanesOf, value, every, wellFormed}
 use Rattle.values.specs.declared.Value.{Value}
 use Rattle.values.specs.declared.Scalar.{Scalar}
@@ -20,22 +20,17 @@ use Rattle.values.proofs.Bools.{both}
 use Rattle.values.proofs.Places.{each, lanes-at-most-16, typed}
 use Rattle.values.proofs.Formed.{is-type, used-below, whole}
 use Rattle.spelling.proofs.Spellings.{kind-spelled}
-use Rattle.spelling.specs.Hex.{digitCount, digitBound, digitOf, hexByte, hexBytes}
+use Rattle.spelling.specs.Hex.{digitCount, digitBound, hexByte, hexBytes}
 use Rattle.spelling.specs.Read.{good, before, lanesAt, found, reading, colonAt, readLanes, readValue}
 use Rattle.spelling.specs.Write.{lanesText, textOf}
+use Rattle.spelling.proofs.FirstPlace.{without, place-after}
+use Rattle.spelling.proofs.Scan.{digit-step}
 use Rattle.spelling.proofs.Hexes.{digit-byte, no-digits, hex-front, hex-none, digit-more}
 
 -- a lane that w digits below b spell
 pub record Fit (b w x : ℕ) : Type 0 where
   pub small : x < 16 ^ w
   pub digits : (j : ℕ) → x / 16 ^ j % 16 < b
-
--- a right digit
-digit-step : (b w n d p u c q : ℕ) (t : List ℕ) → digitOf c ≡ q → q < b → lanesAt b w n (suc d) p u (c ∷ t) ≡ lanesAt b w n d (p + 1) (u * 16 + q) t
-unfolding lanesAt
-digit-step b w n d p u c q t e h =
-    let z : suc d - 1 ≡ d = omega arith in
-    rw (eqb·suc-zero d, e, lt-ltb q b h, z)
 
 -- the digits of a lane are read
 digits-back : (b w n d p v : ℕ) (r : List ℕ) → ((j : ℕ) → v / 16 ^ j % 16 < b)
@@ -105,18 +100,8 @@ kind-back k p x xs e f =
     rw (← e, eqb·suc-zero (length xs), z) (ap (reading k) (lanes-back (digitBound (scalarOf k)) (digitCount (scalarOf k)) p x xs f))
 
 -- no type's spelling has a colon
-abbrev plain : List ℕ → Bool
-plain s = every (λ x. not (eqb x (byte ":"))) s
-
-colon-plain : (a r : List ℕ) → plain a ≡ true → colonAt (a ++ (58 ∷ r)) ≡ length a
-unfolding colonAt
-colon-plain [] r t = refl
-colon-plain (x ∷ a) r t =
-    let h = both (not (eqb x 58)) (plain a) t in
-    rw (not-true (eqb x 58) (h .0)) (ap suc (colon-plain a r (h .1)))
-
 colon-spelled : (k : Kind) (r : List ℕ) → colonAt (spelled k ++ (58 ∷ r)) ≡ length (spelled k)
-colon-spelled k r = colon-plain (spelled k) r (each (λ l. plain (spelled l)) refl k)
+colon-spelled k r = place-after (byte ":") (spelled k) r (each (λ l. without (byte ":") (spelled l)) refl k)
 
 lanes-given : (k : Kind) (l : List ℕ) → 0 < laneCount k → length l ≡ laneCount k → Fits (digitBound (scalarOf k)) (digitCount (scalarOf k)) l
     → readValue (spelled k ++ lanesText 58 (digitCount (scalarOf k)) l) ≡ found (value k l)

@@ -1,37 +1,27 @@
--- What one byte does to the reading of lanes, and how the lanes come into the array: each step opens the definition at one byte. Assumes nothing.
+-- What one byte does to the reading of lanes, what digits in a row do, and how the lanes come into the array: each step opens the definition at one byte, and a row is as many steps. Assumes nothing.
 use Prim.Native.Nat.{ℕ, zero, suc, _+_, _*_, _-_, _<_, _≤_, _^_}
-use mathlib.Core.List.{List, [], _∷_}
+use mathlib.Core.Bool.{Bool, true, _&&_}
+use mathlib.Core.List.{List, [], _∷_, _++_}
 use mathlib.Core.Path.{_≡_, refl, ap, sym, _∙_}
 use native.Mathlib.Numerals.{add-one}
-use native.Mathlib.Nat.{pow-suc, pow-le-pow-right, add-assoc, zero-add, sub-zero, zero-sub, suc-sub-suc}
+use native.Mathlib.Nat.{pow-suc, pow-le-pow-right, add-assoc, add-zero, zero-add, sub-zero, zero-sub, suc-sub-suc}
 use native.Mathlib.Omega.{arith}
-use lib.ListN.{length, take, drop, getD, set, replicate, length-drop}
-use lib.Seq.{drop-cons, drop-length, take-all}
-use borrow.Author.Tests.{eq-eqb, ne-eqb, lt-ltb, le-ltb}
+use lib.Dec.{eqb, ltb, leb, eqb·suc-zero}
+use lib.ListN.{length, take, drop, getD, set, replicate, length-drop, take-append-drop}
+use lib.Seq.{drop-cons, drop-drop, drop-length, length-take-le, take-all}
+use borrow.Author.Tests.{eq-eqb, ne-eqb, lt-ltb, le-ltb, eqb-true, ltb-true, leb-true}
 use Rattle.values.specs.Value.{laneCount, scalarOf, value}
+use Rattle.values.proofs.Bools.{both}
 use Rattle.values.specs.declared.Scalar.{Scalar}
 use Rattle.values.specs.declared.Kind.{Kind}
 use Rattle.spelling.specs.declared.Reading.{Reading}
 use Rattle.spelling.specs.declared.Fault.the-variants.{Lanes, Digit}
-use Rattle.spelling.specs.Hex.{digitCount, digitBound, digitOf}
+use Rattle.spelling.specs.Hex.{digitCount, digitBound, digitOf, digitsBelow, number}
 use Rattle.spelling.specs.Write.{put}
 use Rattle.spelling.specs.Read.{Scanned, digitAt, countAt, good, before, lanesAt, wrong, found, reading, colonAt, readLanes, readValue}
 use Rattle.spelling.specs.Types.{kindOf}
+use Rattle.spelling.proofs.Numbers.{number-after}
 use Rattle.spelling.proofs.Puts.{put-put, put-set}
-
--- the first colon
-module _ (s : List ℕ) (i : ℕ) (h : i < length s) where
-  pub colon-hit : getD s i 0 ≡ 58 → colonAt (drop i s) ≡ 0
-  unfolding colonAt
-  colon-hit e = rw (drop-cons s i 0 h, eq-eqb _ _ e)
-
-  pub colon-miss : (getD s i 0 ≡ 58 → ⊥) → colonAt (drop i s) ≡ suc (colonAt (drop (i + 1) s))
-  unfolding colonAt
-  colon-miss e = rw (drop-cons s i 0 h, ne-eqb _ _ e, add-one)
-
-pub colon-end : (s : List ℕ) → colonAt (drop (length s) s) ≡ 0
-unfolding colonAt
-colon-end s = rw drop-length
 
 -- one byte of the lanes
 module _ (b w n d p v : ℕ) (s : List ℕ) (i : ℕ) (h : i < length s) where
@@ -56,6 +46,63 @@ module _ (b w n d p v : ℕ) (s : List ℕ) (i : ℕ) (h : i < length s) where
       → lanesAt b w n d (p + i) v (drop i s) ≡ lanesAt b w n (d - 1) (p + (i + 1)) (v * 16 + x) (drop (i + 1) s)
   unfolding lanesAt
   digit-next e x q f = rw (q, drop-cons s i 0 h, ne-eqb _ _ e, lt-ltb _ _ (rw q at f), ← add-assoc p i 1, add-one i)
+
+-- a right digit
+pub digit-step : (b w n d p u c q : ℕ) (t : List ℕ) → digitOf c ≡ q → q < b → lanesAt b w n (suc d) p u (c ∷ t) ≡ lanesAt b w n d (p + 1) (u * 16 + q) t
+unfolding lanesAt
+digit-step b w n d p u c q t e h =
+    let z : suc d - 1 ≡ d = omega arith in
+    rw (eqb·suc-zero d, e, lt-ltb q b h, z)
+
+-- what the test for digits in a row says
+pub all-due : (d k n m : ℕ) (t : Bool) → eqb d k && leb n m && t ≡ true → (d ≡ k) × (n ≤ m) × (t ≡ true)
+all-due d k n m t e =
+    let f = both (eqb d k && leb n m) t e in
+    let g = both (eqb d k) (leb n m) (f .0) in
+    (eqb-true d k (g .0), leb-true n m (g .1), f .1)
+
+-- digits in a row
+digits-on : (b w n d p v : ℕ) (xs r : List ℕ) → digitsBelow b xs ≡ true → lanesAt b w n (length xs + d) p v (xs ++ r) ≡ lanesAt b w n d (p + length xs) (number v xs) r
+unfolding number
+digits-on b w n d p v [] r t = rw (zero-add, add-zero)
+digits-on b w n d p v (x ∷ xs) r t =
+    let h = both (ltb (digitOf x) b) (digitsBelow b xs) t in
+    let e : suc (length xs) + d ≡ suc (length xs + d) = omega arith in
+    let f : p + suc (length xs) ≡ p + 1 + length xs = omega arith in
+    rw (e, f) (digit-step b w n (length xs + d) p v x (digitOf x) (xs ++ r) refl (ltb-true _ _ (h .0)) ∙ digits-on b w n d (p + 1) (v * 16 + digitOf x) xs r (h .1))
+
+-- how a number grows by a digit
+pub grows : (v d i : ℕ) → v < 16 ^ i → d < 16 → v * 16 + d < 16 ^ (i + 1)
+grows v d i h k = rw (add-one, pow-suc) (omega arith)
+
+-- and by digits in a row
+row-grows : (b v k : ℕ) (xs : List ℕ) → b ≤ 16 → digitsBelow b xs ≡ true → v < 16 ^ k → number v xs < 16 ^ (k + length xs)
+unfolding number
+row-grows b v k [] h t g = rw add-zero g
+row-grows b v k (x ∷ xs) h t g =
+    let d = both (ltb (digitOf x) b) (digitsBelow b xs) t in
+    let l = ltb-true (digitOf x) b (d .0) in
+    let f : k + suc (length xs) ≡ k + 1 + length xs = omega arith in
+    rw f (row-grows b (v * 16 + digitOf x) (k + 1) xs h (d .1) (grows v (digitOf x) k g (omega arith)))
+
+-- all digits that are due, from i on
+module _ (b w v : ℕ) (s : List ℕ) (i k : ℕ) (h : i + k ≤ length s) (t : digitsBelow b (take k (drop i s)) ≡ true) where
+  due-length : length (take k (drop i s)) ≡ k
+  due-length = length-take-le k (drop i s) (omega (arith, length-drop i s))
+
+  due-number : number v (take k (drop i s)) ≡ v * 16 ^ k + number 0 (take k (drop i s))
+  due-number = rw due-length at (number-after v (take k (drop i s)))
+
+  pub digits-next : (n p : ℕ) {d x : ℕ} → d ≡ k → x ≡ v * 16 ^ k + number 0 (take k (drop i s))
+      → lanesAt b w n d (p + i) v (drop i s) ≡ lanesAt b w n 0 (p + (i + d)) x (drop (i + d) s)
+  digits-next n p e q =
+      rw (q, ← due-number, e, ← add-assoc p i k, ← drop-drop k i s)
+      (rw (due-length, add-zero, take-append-drop) at (digits-on b w n 0 (p + i) v (take k (drop i s)) (drop k (drop i s)) t))
+
+  pub digits-fit : {d : ℕ} → d ≡ k → b ≤ 16 → d ≤ w → v < 16 ^ (w - d) → v * 16 ^ k + number 0 (take k (drop i s)) < 16 ^ w
+  digits-fit e a g f =
+      let z : w - k + k ≡ w = omega arith in
+      rw (← due-number) (rw (due-length, z) at (row-grows b v (w - k) (take k (drop i s)) a t (rw e at f)))
 
 -- the end of the field
 drop-end : (s : List ℕ) (i : ℕ) → i ≡ length s → drop i s ≡ []
@@ -101,10 +148,7 @@ into-next k o at v (good l) h =
 pub into-last : (k : Kind) (o : List ℕ) (at v : ℕ) → at < length o → into k o at (good (v ∷ [])) ≡ found (record { kind = k; lanes = set o at v })
 into-last k o at v h = rw (put-set o at v h)
 
--- a digit more
-pub grows : (v d i : ℕ) → v < 16 ^ i → d < 16 → v * 16 + d < 16 ^ (i + 1)
-grows v d i h k = rw (add-one, pow-suc) (omega arith)
-
+-- powers
 pub sixteen : (i : ℕ) → i ≤ 16 → 16 ^ i ≤ 2 ^ 64
 sixteen i h = pow-le-pow-right {n = 16} (omega arith) h
 

@@ -3,7 +3,6 @@ use Prim.Native.Nat.{ℕ, zero, suc, _+_, _*_, _-_, _/_, _%_, _<_, _≤_, _^_}
 use mathlib.Core.List.{List, [], _∷_, _++_}
 use mathlib.Core.Bool.{Bool, true, false, cond}
 use mathlib.Core.Path.{_≡_, refl, ap, sym, _∙_}
-use native.Mathlib.Numerals.{add-one}
 use native.Mathlib.Nat.{zero-mul, zero-add, lt-div-mul-add, pow-le-pow-right, pow-zero, div-one, div-eq-of-lt, mod-eq-of-lt}
 use native.Mathlib.Omega.{arith}
 use lib.ListN.{length, take, drop, replicate}
@@ -11,6 +10,7 @@ use lib.Seq.{take-at}
 use lib.Dec.{ltb, eqb, eqb·suc-zero}
 use borrow.Author.Tests.{lt-ltb, ltb-true, ltb-false, eqb-true, eqb-false}
 use Rattle.values.specs.Value.{laneBits, laneCount, scalarOf, value, emptyValue, every, wellFormed}
+use Rattle.spelling.specs.Text.{byte}
 use Rattle.spelling.specs.Hex.{digitCount, digitBound, digitOf, hexBytes}
 use Rattle.values.specs.declared.Scalar.{Scalar}
 use Rattle.values.specs.declared.Scalar.the-variants.{Boolean, I32, U32, F32, F16}
@@ -25,6 +25,7 @@ use Rattle.spelling.specs.declared.Fault.the-variants.{Nothing, TypeSpel
 use Rattle.spelling.specs.declared.Reading.{Reading}
 use Rattle.spelling.specs.Read.{faultNumber, Scanned, digitAt, countAt, good, before, lanesAt, wrong, found, reading, colonAt, readLanes, readValue}
 use Rattle.spelling.specs.Write.{lanesText, textOf}
+use Rattle.spelling.proofs.FirstPlace.{place-split}
 use Rattle.spelling.proofs.Hexes.{byte-digit, no-digits, hex-front, hex-none, digit-low, digit-high, div-suc}
 use Rattle.spelling.proofs.Scan.{one-at-least}
 use Rattle.spelling.proofs.ReadsBack.{Fit, Fits, none, more}
@@ -190,18 +191,6 @@ unfolding readLanes
 lanes-read k p t e =
     by-lanes k p t (eqb (laneCount k) 0) (lanesAt (digitBound (scalarOf k)) (digitCount (scalarOf k)) (laneCount k - 1) (digitCount (scalarOf k)) p 0 t) refl refl e
 
--- a field with a colon, cut at the first
-by-colon : (x : ℕ) (xs : List ℕ) (t : Bool) → eqb x 58 ≡ t → (colonAt xs < length xs → xs ≡ take (colonAt xs) xs ++ (58 ∷ drop (colonAt xs + 1) xs))
-    → cond t 0 (suc (colonAt xs)) < suc (length xs)
-    → x ∷ xs ≡ take (cond t 0 (suc (colonAt xs))) (x ∷ xs) ++ (58 ∷ drop (cond t 0 (suc (colonAt xs)) + 1) (x ∷ xs))
-by-colon x xs true e ih h = ap (λ (y : ℕ). y ∷ xs) (eqb-true x 58 e)
-by-colon x xs false e ih h = rw (add-one (suc (colonAt xs))) (ap (λ (l : List ℕ). x ∷ l) (rw add-one at (ih (omega arith))))
-
-colon-split : (s : List ℕ) → colonAt s < length s → s ≡ take (colonAt s) s ++ (58 ∷ drop (colonAt s + 1) s)
-unfolding colonAt
-colon-split [] h = absurd (omega arith)
-colon-split (x ∷ xs) h = by-colon x xs (eqb x 58) refl (colon-split xs) h
-
 -- the text of a value that was read
 read-text : (k : Kind) (t : List ℕ) (r : Reading) → Read k t r → textOf (r .value) ≡ spelled k ++ (58 ∷ t)
 unfolding textOf found value
@@ -245,7 +234,7 @@ by-split s true h e =
     let i = lanes-read k (colonAt s + 2) t e in
     let q = spelled-kind (take (colonAt s) s) k refl (typed k ∙ lt-ltb 0 (laneCount k) (i .some)) in
     record {
-      text = colon-split s (ltb-true (colonAt s) (length s) h) ∙ ap (λ (l : List ℕ). l ++ (58 ∷ t)) q ∙ sym (read-text k t r i);
+      text = place-split (byte ":") s (ltb-true (colonAt s) (length s) h) ∙ ap (λ (l : List ℕ). l ++ (58 ∷ t)) q ∙ sym (read-text k t r i);
       formed = read-formed k t r i .0;
       lanes = read-formed k t r i .1;
     }

@@ -1,5 +1,5 @@
 -- Reading a value: 01, "Lines": "A value is type, colon, lanes parted by commas, upper-case hex", and the faults of 02, Q-2, of which the leftmost is told. Definitions only.
-use Prim.Native.Nat.{ℕ, suc, _+_, _*_, _-_}
+use Prim.Native.Nat.{ℕ, _+_, _*_, _-_}
 use mathlib.Core.Bool.{cond}
 use mathlib.Core.List.{List, [], _∷_}
 use lib.Dec.{ltb, eqb}
@@ -10,7 +10,7 @@ use Rattle.values.specs.declared.Kind.{Kind}
 use Rattle.spelling.specs.declared.Fault.{Fault}
 use Rattle.spelling.specs.declared.Fault.the-variants.{Nothing, TypeSpelling, Lanes, Digit}
 use Rattle.spelling.specs.declared.Reading.{Reading}
-use Rattle.spelling.specs.Text.{byte}
+use Rattle.spelling.specs.Text.{byte, placeOf}
 use Rattle.spelling.specs.Types.{kindOf}
 use Rattle.spelling.specs.Hex.{digitCount, digitBound, digitOf}
 
@@ -64,9 +64,8 @@ reading k (countAt p) = wrong Lanes p
 reading k (good l) = found (value k l)
 
 -- where the first colon stands
-unfoldable pub colonAt : List ℕ → ℕ
-colonAt [] = 0
-colonAt (x ∷ xs) = cond (eqb x (byte ":")) 0 (suc (colonAt xs))
+abbrev pub colonAt : List ℕ → ℕ
+colonAt s = placeOf (byte ":") s
 
 -- the lanes of a value of type k, from place p on; "A wrong type spelling [..] stands at its field's first byte"
 unfoldable pub readLanes : Kind → ℕ → List ℕ → Reading

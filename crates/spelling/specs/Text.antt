@@ -1,7 +1,7 @@
 -- Texts as bytes, so that a definition can quote them, and what a text spells. Definitions only.
 use Prim.Native.String.{String, [], _∷_}
 use Prim.Native.Char.{Char, code}
-use Prim.Native.Nat.{ℕ}
+use Prim.Native.Nat.{ℕ, suc}
 use mathlib.Core.Bool.{Bool, true, false, cond, _&&_}
 use mathlib.Core.List as list
 use lib.Dec.{eqb}
@@ -18,6 +18,11 @@ sameBytes list.[] list.[] = true
 sameBytes list.[] (list._∷_ y ys) = false
 sameBytes (list._∷_ x xs) list.[] = false
 sameBytes (list._∷_ x xs) (list._∷_ y ys) = eqb x y && sameBytes xs ys
+
+-- where the first b stands, or the length
+unfoldable pub placeOf : ℕ → list.List ℕ → ℕ
+placeOf b list.[] = 0
+placeOf b (list._∷_ x xs) = cond (eqb x b) 0 (suc (placeOf b xs))
 
 -- the first of some things that is spelled s, and `none` where there is none
 unfoldable pub firstSpelled : {A : Type 0} → (A → list.List ℕ) → A → list.List A → list.List ℕ → A

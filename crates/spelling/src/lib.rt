@@ -5,17 +5,93 @@ use values::Size;
 use values::Value;
 use values::Width;
 ghost use mathlib.Core.Path.{_≡_};
-ghost use mathlib.Core.Bool.{cond};
+ghost use mathlib.Core.Bool.{cond, _&&_};
 ghost use mathlib.Core.List.{[], _∷_};
 ghost use Prim.Native.Nat.{_+_, _*_, _<_, _≤_, _^_};
-ghost use lib.Dec.{leb};
-ghost use lib.ListN.{length, take};
-ghost use Rattle.spelling.specs.Text.{byte, sameBytes};
+ghost use lib.Dec.{eqb, leb};
+ghost use lib.ListN.{length, take, drop};
+ghost use Rattle.spelling.specs.Text.{byte, sameBytes, placeOf};
 ghost use Rattle.spelling.specs.Types.{spelled, spelling, kindOf, sizeByte};
 ghost use Rattle.spelling.specs.Guess.{sizeBy, widthBy, scalarBy, guessOf};
-ghost use Rattle.spelling.specs.Hex.{digitCount, digitBound, digitOf, hexByte, hexBytes};
-ghost use Rattle.spelling.specs.Read.{lanesAt, reading, readLanes, readValue, colonAt, wrong, found};
+ghost use Rattle.spelling.specs.Hex.{digitCount, digitBound, digitOf, digitsBelow, number, DigitTable, HexTable, hexBytes};
+ghost use Rattle.spelling.specs.Read.{lanesAt, reading, readLanes, readValue, wrong, found};
 ghost use Rattle.spelling.specs.Write.{put, fits, lanesText, textOf};
+
+// ---- bytes
+
+// Whether eight bytes from i on are the same in both. The tests are joined without branches, so that all eight are one.
+fn eight_same(a: &[u8], b: &[u8], i: usize) -> bool
+    requires { ⌜ (i + 8 ≤ length (now a)) × (i + 8 ≤ length (now b)) ⌝ }
+    ensures { λ r. ⌜ r ≡ sameBytes (take 8 (drop i (now (a .entry)))) (take 8 (drop i (now (b .entry)))) ⌝ }
+{
+    (a[i] == b[i])
+        & (a[i + 1] == b[i + 1])
+        & (a[i + 2] == b[i + 2])
+        & (a[i + 3] == b[i + 3])
+        & (a[i + 4] == b[i + 4])
+        & (a[i + 5] == b[i + 5])
+        & (a[i + 6] == b[i + 6])
+        & (a[i + 7] == b[i + 7])
+}
+
+// Whether two slices hold the same bytes.
+pub fn same(a: &[u8], b: &[u8]) -> bool
+    ensures { λ r. ⌜ r ≡ sameBytes (now (a .entry)) (now (b .entry)) ⌝ }
+{
+    if a.len() != b.len() {
+        return false;
+    }
+    let mut i = 0;
+    while a.len() - i >= 8 {
+        if !eight_same(a, b, i) {
+            return false;
+        }
+        i += 8;
+    }
+    while i < a.len() {
+        if a[i] != b[i] {
+            return false;
+        }
+        i += 1;
+    }
+    true
+}
+
+// Whether none of the eight bytes from i on is b, tested as one too.
+fn none_of_eight(s: &[u8], i: usize, b: u8) -> bool
+    requires { ⌜ i + 8 ≤ length (now s) ⌝ }
+    ensures { λ r. ⌜ r ≡ leb 8 (placeOf b (drop i (now (s .entry)))) ⌝ }
+{
+    (s[i] != b)
+        & (s[i + 1] != b)
+        & (s[i + 2] != b)
+        & (s[i + 3] != b)
+        & (s[i + 4] != b)
+        & (s[i + 5] != b)
+        & (s[i + 6] != b)
+        & (s[i + 7] != b)
+}
+
+// Where the first b stands, or the length.
+pub fn find(s: &[u8], b: u8) -> usize
+    ensures { λ r. ⌜ (r ≡ placeOf b (now (s .entry))) × (r ≤ length (now (s .entry))) ⌝ }
+{
+    let mut i = 0;
+    while s.len() - i >= 8 {
+        if none_of_eight(s, i, b) {
+            i += 8;
+        } else {
+            break;
+        }
+    }
+    while i < s.len() {
+        if s[i] == b {
+            return i;
+        }
+        i += 1;
+    }
+    i
+}
 
 // ---- types
 
@@ -167,23 +243,6 @@ fn spelling_of(k: Kind) -> Spelling
     }
 }
 
-// Whether two slices hold the same bytes.
-pub fn same(a: &[u8], b: &[u8]) -> bool
-    ensures { λ r. ⌜ r ≡ sameBytes (now (a .entry)) (now (b .entry)) ⌝ }
-{
-    if a.len() != b.len() {
-        return false;
-    }
-    let mut i = 0;
-    while i < a.len() {
-        if a[i] != b[i] {
-            return false;
-        }
-        i += 1;
-    }
-    true
-}
-
 // Whether s spells the type k.
 fn spells(k: Kind, s: &[u8]) -> bool
     ensures { λ r. ⌜ r ≡ sameBytes (spelled k) (now (s .entry)) ⌝ }
@@ -320,23 +379,38 @@ fn digit_bound(s: Scalar) -> u8
     }
 }
 
+// The digit that each byte spells, 16 where it spells none.
+const DIGITS: [u8; 256] = *b"\
+    \x10\x10\x10\x10\x10\x10\x10\x10\x10\x10\x10\x10\x10\x10\x10\x10\
+    \x10\x10\x10\x10\x10\x10\x10\x10\x10\x10\x10\x10\x10\x10\x10\x10\
+    \x10\x10\x10\x10\x10\x10\x10\x10\x10\x10\x10\x10\x10\x10\x10\x10\
+    \x00\x01\x02\x03\x04\x05\x06\x07\x08\x09\x10\x10\x10\x10\x10\x10\
+    \x10\x0a\x0b\x0c\x0d\x0e\x0f\x10\x10\x10\x10\x10\x10\x10\x10\x10\
+    \x10\x10\x10\x10\x10\x10\x10\x10\x10\x10\x10\x10\x10\x10\x10\x10\
+    \x10\x10\x10\x10\x10\x10\x10\x10\x10\x10\x10\x10\x10\x10\x10\x10\
+    \x10\x10\x10\x10\x10\x10\x10\x10\x10\x10\x10\x10\x10\x10\x10\x10\
+    \x10\x10\x10\x10\x10\x10\x10\x10\x10\x10\x10\x10\x10\x10\x10\x10\
+    \x10\x10\x10\x10\x10\x10\x10\x10\x10\x10\x10\x10\x10\x10\x10\x10\
+    \x10\x10\x10\x10\x10\x10\x10\x10\x10\x10\x10\x10\x10\x10\x10\x10\
+    \x10\x10\x10\x10\x10\x10\x10\x10\x10\x10\x10\x10\x10\x10\x10\x10\
+    \x10\x10\x10\x10\x10\x10\x10\x10\x10\x10\x10\x10\x10\x10\x10\x10\
+    \x10\x10\x10\x10\x10\x10\x10\x10\x10\x10\x10\x10\x10\x10\x10\x10\
+    \x10\x10\x10\x10\x10\x10\x10\x10\x10\x10\x10\x10\x10\x10\x10\x10\
+    \x10\x10\x10\x10\x10\x10\x10\x10\x10\x10\x10\x10\x10\x10\x10\x10";
+
+// The table, to be read once before many bytes are looked up in it: each reading of a constant array copies it.
+fn digit_table() -> [u8; 256]
+    ensures { λ r. ⌜ DigitTable r ⌝ }
+{
+    DIGITS
+}
+
 // The digit that a byte spells, 16 where it spells none.
-fn digit(b: u8) -> u8
+fn digit(table: &[u8; 256], b: u8) -> u8
+    requires { ⌜ DigitTable (now table) ⌝ }
     ensures { λ r. ⌜ (r ≡ digitOf b) × (r ≤ 16) ⌝ }
 {
-    if b < b'0' {
-        return 16;
-    }
-    if b <= b'9' {
-        return b - b'0';
-    }
-    if b < b'A' {
-        return 16;
-    }
-    if b <= b'F' {
-        return b - b'A' + 10;
-    }
-    16
+    table[b as usize]
 }
 
 fn wide(x: u8) -> u64
@@ -345,25 +419,60 @@ fn wide(x: u8) -> u64
     x as u64
 }
 
-// Where the first colon stands, or the length.
-fn find_colon(s: &[u8]) -> usize
-    ensures { λ r. ⌜ (r ≡ colonAt (now (s .entry))) × (r ≤ length (now (s .entry))) ⌝ }
+// Whether eight bytes from i on spell digits below b, all tested as one.
+fn eight_digits(table: &[u8; 256], s: &[u8], i: usize, b: u8) -> bool
+    requires { ⌜ DigitTable (now table) × (i + 8 ≤ length (now s)) ⌝ }
+    ensures { λ r. ⌜ r ≡ digitsBelow b (take 8 (drop i (now (s .entry)))) ⌝ }
 {
-    let mut i = 0;
-    while i < s.len() {
-        if s[i] == b':' {
-            return i;
-        }
-        i += 1;
-    }
-    i
+    (digit(table, s[i]) < b)
+        & (digit(table, s[i + 1]) < b)
+        & (digit(table, s[i + 2]) < b)
+        & (digit(table, s[i + 3]) < b)
+        & (digit(table, s[i + 4]) < b)
+        & (digit(table, s[i + 5]) < b)
+        & (digit(table, s[i + 6]) < b)
+        & (digit(table, s[i + 7]) < b)
 }
 
-// The n + 1 lanes of a value, each of w digits below b; s starts at place p.
+// Whether eight digits are due, and stand from i on.
+fn eight_due(table: &[u8; 256], s: &[u8], i: usize, due: usize, b: u8) -> bool
+    requires { ⌜ DigitTable (now table) × (i ≤ length (now s)) ⌝ }
+    ensures { λ r. ⌜ r ≡ (eqb due 8 && leb (i + 8) (length (now (s .entry))) && digitsBelow b (take 8 (drop i (now (s .entry))))) ⌝ }
+{
+    if due != 8 {
+        return false;
+    }
+    if s.len() - i < 8 {
+        return false;
+    }
+    eight_digits(table, s, i, b)
+}
+
+// The number that four digits from i on spell.
+fn four_value(table: &[u8; 256], s: &[u8], i: usize) -> u64
+    requires { ⌜ DigitTable (now table) × (i + 4 ≤ length (now s)) ⌝ }
+    ensures { λ r. ⌜ (r ≡ number 0 (take 4 (drop i (now (s .entry))))) × (r < 2 ^ 17) ⌝ }
+{
+    wide(digit(table, s[i])) * 4096
+        + wide(digit(table, s[i + 1])) * 256
+        + wide(digit(table, s[i + 2])) * 16
+        + wide(digit(table, s[i + 3]))
+}
+
+// The number that eight digits from i on spell.
+fn eight_value(table: &[u8; 256], s: &[u8], i: usize) -> u64
+    requires { ⌜ DigitTable (now table) × (i + 8 ≤ length (now s)) ⌝ }
+    ensures { λ r. ⌜ r ≡ number 0 (take 8 (drop i (now (s .entry)))) ⌝ }
+{
+    four_value(table, s, i) * 65536 + four_value(table, s, i + 4)
+}
+
+// The n + 1 lanes of a value, each of w digits below b; s starts at place p. Eight digits that are due are read at once; where one of them is wrong, byte by byte up to it.
 fn read_lanes(kind: Kind, s: &[u8], p: usize, n: usize, w: usize, b: u8) -> Reading
     requires { ⌜ (n ≤ 15) × (w ≤ 16) × (b ≤ 16) × (p + length (now s) < 2 ^ 64) ⌝ }
     ensures { λ r. ⌜ r ≡ reading kind (lanesAt b w n w p 0 (now (s .entry))) ⌝ }
 {
+    let table = digit_table();
     let mut lanes: [u64; 16] = [0; 16];
     let mut done: usize = 0;
     let mut left = n;
@@ -371,6 +480,12 @@ fn read_lanes(kind: Kind, s: &[u8], p: usize, n: usize, w: usize, b: u8) -> Read
     let mut lane: u64 = 0;
     let mut i: usize = 0;
     while i < s.len() {
+        if eight_due(&table, s, i, due, b) {
+            lane = lane * 4294967296 + eight_value(&table, s, i);
+            i += due;
+            due = 0;
+            continue;
+        }
         let x = s[i];
         if due == 0 {
             if x != b',' {
@@ -387,7 +502,7 @@ fn read_lanes(kind: Kind, s: &[u8], p: usize, n: usize, w: usize, b: u8) -> Read
             i += 1;
             continue;
         }
-        let d = digit(x);
+        let d = digit(&table, x);
         if b <= d {
             return wrong_at(Fault::Digit, p + i);
         }
@@ -425,7 +540,7 @@ fn read_of(k: Kind, s: &[u8], p: usize) -> Reading
 pub fn read_value(s: &[u8]) -> Reading
     ensures { λ r. ⌜ r ≡ readValue (now (s .entry)) ⌝ }
 {
-    let c = find_colon(s);
+    let c = find(s, b':');
     if c == s.len() {
         return wrong_at(Fault::TypeSpelling, 1);
     }
@@ -435,16 +550,11 @@ pub fn read_value(s: &[u8]) -> Reading
 
 // ---- values, written
 
-// The byte that spells a digit.
-fn hex_byte(d: u64) -> u8
-    requires { ⌜ d < 16 ⌝ }
-    ensures { λ r. ⌜ r ≡ hexByte d ⌝ }
+// The bytes that spell the digits.
+fn hex_table() -> [u8; 16]
+    ensures { λ r. ⌜ HexTable r ⌝ }
 {
-    if d < 10 {
-        b'0' + d as u8
-    } else {
-        b'A' + (d - 10) as u8
-    }
+    *b"0123456789ABCDEF"
 }
 
 // The low n digits of v, written from `at` on.
@@ -452,11 +562,12 @@ fn put_hex(out: &mut [u8], at: usize, n: usize, v: u64)
     requires { ⌜ (at + n ≤ length (now out)) × (n ≤ 16) ⌝ }
     ensures { λ _. ⌜ now (out .exit) ≡ put (now (out .entry)) at (hexBytes n v) ⌝ }
 {
+    let hex = hex_table();
     let mut rest = v;
     let mut i = n;
     while i > 0 {
         i -= 1;
-        out[at + i] = hex_byte(rest % 16);
+        out[at + i] = hex[(rest % 16) as usize];
         rest = rest / 16;
     }
 }

@@ -1,12 +1,12 @@
 -- One line's answer, its text and its length: a refusal is printed, an answer is what was written. Assumes nothing.
-use Prim.Native.Nat.{ℕ, _+_, _<_, _≤_}
+use Prim.Native.Nat.{ℕ, _+_, _≤_}
 use mathlib.Core.List.{List, [], _∷_, _++_, append-nil}
 use mathlib.Core.Bool.{Bool, true, false, cond}
 use mathlib.Core.Path.{_≡_, refl, ap, _∙_}
 use native.Mathlib.Omega.{arith}
 use lib.ListN.{length, length-append}
 use lib.Dec.{ltb, eqb}
-use borrow.Author.Tests.{lt-ltb, le-ltb, eq-eqb, ne-eqb, eqb-true, eqb-false}
+use borrow.Author.Tests.{eq-eqb, ne-eqb, eqb-true, eqb-false}
 use Rattle.stream.specs.Printed.{places, digits, refusedText, answerText, answerLine}
 use Rattle.lines.specs.Line.{refusalOf, answerOf, refusalIn, writtenIn, lineAnswer}
 use Rattle.stream.specs.Stream.{lineRoom, mostText}

@@ -1,42 +1,18 @@
--- Laws of lines and of the first newline.
-use Prim.Native.Nat.{ℕ, suc, _+_, _-_, _<_, _≤_}
+-- Laws of lines and of the first newline, each by induction on the bytes. Assumes nothing.
+use Prim.Native.Nat.{ℕ, suc, _<_}
 use mathlib.Core.List.{List, [], _∷_, _++_}
 use mathlib.Core.Bool.{Bool, true, false, cond}
 use mathlib.Core.Path.{_≡_, refl, ap}
-use native.Mathlib.Numerals.{add-one}
 use native.Mathlib.Omega.{arith}
-use lib.ListN.{length, take, drop, getD}
-use lib.Seq.{drop-cons, drop-length}
+use lib.ListN.{length, take, drop}
 use lib.Dec.{eqb}
-use borrow.Author.Tests.{eq-eqb, ne-eqb}
+use Rattle.spelling.specs.Text.{placeOf}
 use Rattle.stream.specs.Lines.{newlineAt, lines, afterNewline, onFirst}
-
-module _ (s : List ℕ) (i : ℕ) (h : i < length s) where
-  pub newline-hit : getD s i 0 ≡ 10 → newlineAt (drop i s) ≡ 0
-  unfolding newlineAt
-  newline-hit e = rw (drop-cons s i 0 h, eq-eqb _ _ e)
-
-  pub newline-miss : (getD s i 0 ≡ 10 → ⊥) → newlineAt (drop i s) ≡ suc (newlineAt (drop (i + 1) s))
-  unfolding newlineAt
-  newline-miss e = rw (drop-cons s i 0 h, ne-eqb _ _ e, add-one)
-
-pub newline-end : (s : List ℕ) → newlineAt (drop (length s) s) ≡ 0
-unfolding newlineAt
-newline-end s = rw drop-length
-
-pub newline-le : (s : List ℕ) → newlineAt s ≤ length s
-unfolding newlineAt
-newline-le [] = omega arith
-newline-le (x ∷ xs) = by (eqb x 10) (newline-le xs)
-  where
-    by : (b : Bool) → newlineAt xs ≤ length xs → cond b 0 (suc (newlineAt xs)) ≤ suc (length xs)
-    by true h = omega arith
-    by false h = omega arith
 
 module _ (rest : List ℕ) where
   -- a line that is ended is the first
   pub lines-ended : (s : List ℕ) → newlineAt s < length s → lines (s ++ rest) ≡ take (newlineAt s) s ∷ lines (drop (suc (newlineAt s)) s ++ rest)
-  unfolding newlineAt lines onFirst
+  unfolding placeOf lines onFirst
   lines-ended [] h = absurd (omega arith)
   lines-ended (x ∷ xs) h = by (eqb x 10) h (lines-ended xs)
     where
@@ -48,7 +24,7 @@ module _ (rest : List ℕ) where
       by false k ih = ap (onFirst x) (ih (omega arith))
 
   pub after-ended : (s : List ℕ) → newlineAt s < length s → afterNewline (s ++ rest) ≡ drop (suc (newlineAt s)) s ++ rest
-  unfolding newlineAt afterNewline
+  unfolding placeOf afterNewline
   after-ended [] h = absurd (omega arith)
   after-ended (x ∷ xs) h = by (eqb x 10) h (after-ended xs)
     where
@@ -59,7 +35,7 @@ module _ (rest : List ℕ) where
       by false k ih = ih (omega arith)
 
   pub after-open : (s : List ℕ) → newlineAt s ≡ length s → afterNewline (s ++ rest) ≡ afterNewline rest
-  unfolding newlineAt afterNewline
+  unfolding placeOf afterNewline
   after-open [] h = refl
   after-open (x ∷ xs) h = by (eqb x 10) h (after-open xs)
     where
@@ -71,7 +47,7 @@ module _ (rest : List ℕ) where
 
 -- a byte before other lines is part of the first
 first : (x : ℕ) (r : List ℕ) → onFirst x (lines r) ≡ (x ∷ take (newlineAt r) r) ∷ lines (afterNewline r)
-unfolding newlineAt lines onFirst afterNewline
+unfolding placeOf lines onFirst afterNewline
 first x [] = refl
 first x (y ∷ ys) = by (eqb y 10) (first y ys)
   where
@@ -84,7 +60,7 @@ first x (y ∷ ys) = by (eqb y 10) (first y ys)
 -- a line that is not ended goes on in what follows
 join : (rest : List ℕ) (x : ℕ) (xs : List ℕ) → newlineAt xs ≡ length xs
     → onFirst x (lines (xs ++ rest)) ≡ (x ∷ xs ++ take (newlineAt rest) rest) ∷ lines (afterNewline rest)
-unfolding newlineAt lines onFirst
+unfolding placeOf lines onFirst
 join rest x [] h = first x rest
 join rest x (y ∷ ys) h = by (eqb y 10) h (join rest y ys)
   where
@@ -96,7 +72,7 @@ join rest x (y ∷ ys) h = by (eqb y 10) h (join rest y ys)
 
 pub lines-open : (rest s : List ℕ) → newlineAt s ≡ length s → 0 < length s
     → lines (s ++ rest) ≡ (s ++ take (newlineAt rest) rest) ∷ lines (afterNewline rest)
-unfolding newlineAt lines
+unfolding placeOf lines
 lines-open rest [] h p = absurd (omega arith)
 lines-open rest (x ∷ xs) h p = by (eqb x 10) h
   where

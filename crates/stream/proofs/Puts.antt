@@ -2,11 +2,11 @@
 use Prim.Native.Nat.{ℕ, zero, suc, _+_, _-_, _/_, _%_, _≤_, _<_}
 use mathlib.Core.List.{List, [], _∷_, _++_, append-assoc, append-nil}
 use mathlib.Core.Path.{_≡_, refl, ap, sym, _∙_}
-use native.Mathlib.Nat.{add-assoc, add-suc, add-zero, zero-add}
+use native.Mathlib.Nat.{add-suc, zero-add}
 use native.Mathlib.Numerals.{add-one}
 use native.Mathlib.Omega.{arith}
-use lib.ListN.{length, take, drop, set, getD, length-append, length-drop, take-append-drop, drop-of-length-le}
-use lib.Seq.{take-at, drop-append-add, drop-drop, length-take-le, set-split, append-snoc, drop-cons, lt-length-set, getD-set-same, drop-set-lt, take-set-le, take-suc, take-all}
+use lib.ListN.{length, take, drop, set, getD, length-append, length-drop, drop-of-length-le}
+use lib.Seq.{drop-drop, length-take-le, append-snoc, drop-cons, lt-length-set, getD-set-same, drop-set-lt, take-set-le, take-suc, take-all}
 use Rattle.spelling.specs.Write.{put}
 use Rattle.spelling.proofs.Puts.{put-length, put-put, put-set}
 use Rattle.stream.specs.Printed.{digits}

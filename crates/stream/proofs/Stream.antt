@@ -1,5 +1,5 @@
 -- Whatever way the input is cut into pieces, what is written is what is printed for all of it.
-use Prim.Native.Nat.{ℕ, zero, suc, _+_, _-_, _<_, _≤_}
+use Prim.Native.Nat.{ℕ, zero, suc, _<_, _≤_}
 use mathlib.Core.List.{List, [], _++_, append-assoc, append-nil}
 use mathlib.Core.Bool.{Bool, true, false, _||_, cond}
 use mathlib.Core.Path.{_≡_, refl, ap, sym, _∙_}
@@ -8,13 +8,15 @@ use lib.ListN.{length, take, drop, length-append, length-drop}
 use lib.Seq.{drop-length, drop-drop, take-all}
 use lib.Dec.{ltb, eqb}
 use borrow.Author.Tests.{lt-ltb, ltb-true, ltb-false, eqb-true, eqb-false}
+use Rattle.spelling.specs.Text.{placeOf}
+use Rattle.spelling.proofs.FirstPlace.{place-le}
 use Rattle.stream.specs.Lines.{newlineAt, lines, afterNewline}
 use Rattle.builtins.specs.declared.Answer.{Answer}
 use Rattle.builtins.specs.Fold.{refused}
 use Rattle.lines.specs.Line.{lineOf, refusalOf, mostBytes}
 use Rattle.stream.specs.Printed.{answerText, answerLine, answerLines, printed, printedFrom}
 use Rattle.stream.specs.Stream.{ended, over, due, pieceText, pieceSize, pieceSkip, partText, partSize, partSkip, Run, reads, writes, ends}
-use Rattle.stream.proofs.Cut.{newline-le, lines-ended, lines-open, after-ended, after-open}
+use Rattle.stream.proofs.Cut.{lines-ended, lines-open, after-ended, after-open}
 
 -- all lines that are too long have one answer
 long-line : (l : List ℕ) → mostBytes < length l → lineOf l ≡ refused 7
@@ -41,7 +43,7 @@ module _ (s rest : List ℕ) where
   -- one line
   pub piece : (skip last : Bool) → (last ≡ true → rest ≡ [])
       → printedFrom skip (s ++ rest) ≡ pieceText skip last s ++ printedFrom (pieceSkip skip s) (drop (pieceSize skip last s) s ++ rest)
-  unfolding printedFrom pieceText pieceSkip pieceSize due newlineAt afterNewline
+  unfolding printedFrom pieceText pieceSkip pieceSize due placeOf afterNewline
   piece skip last end = by (ended s) refl skip
     where
       last-by : (q : Bool) → ltb 0 (length s) ≡ q → over s ≡ false → ended s ≡ false → newlineAt s ≡ length s → rest ≡ []
@@ -67,10 +69,10 @@ module _ (s rest : List ℕ) where
       by true e true = rw (e, after-ended rest s (ltb-true (newlineAt s) (length s) e))
       by true e false = rw e (printed-ended (ltb-true (newlineAt s) (length s) e))
       by false e true =
-          let n : newlineAt s ≡ length s = omega (arith, newline-le s, ltb-false (newlineAt s) (length s) e) in
+          let n : newlineAt s ≡ length s = omega (arith, place-le 10 s, ltb-false (newlineAt s) (length s) e) in
           rw (e, after-open rest s n, drop-length s)
       by false e false =
-          let n : newlineAt s ≡ length s = omega (arith, newline-le s, ltb-false (newlineAt s) (length s) e) in
+          let n : newlineAt s ≡ length s = omega (arith, place-le 10 s, ltb-false (newlineAt s) (length s) e) in
           open-by (over s) refl e n last end
 
 pub part : (n : ℕ) (skip last : Bool) (s rest : List ℕ) → (last ≡ true → rest ≡ [])

@@ -1,8 +1,9 @@
 -- The lines of an input: 01, "A newline ends a line; bytes after the last newline are a line if there are any."
 use mathlib.Core.Bool.{cond}
-use Prim.Native.Nat.{ℕ, suc}
+use Prim.Native.Nat.{ℕ}
 use mathlib.Core.List.{List, [], _∷_}
 use lib.Dec.{eqb}
+use Rattle.spelling.specs.Text.{placeOf}
 
 -- a byte goes before the first line, and is one by itself where there is none
 unfoldable pub onFirst : ℕ → List (List ℕ) → List (List ℕ)
@@ -14,9 +15,8 @@ lines [] = []
 lines (x ∷ xs) = cond (eqb x 10) ([] ∷ lines xs) (onFirst x (lines xs))
 
 -- where the first newline stands, or the length
-unfoldable pub newlineAt : List ℕ → ℕ
-newlineAt [] = 0
-newlineAt (x ∷ xs) = cond (eqb x 10) 0 (suc (newlineAt xs))
+abbrev pub newlineAt : List ℕ → ℕ
+newlineAt s = placeOf 10 s
 
 -- what follows the first newline
 unfoldable pub afterNewline : List ℕ → List ℕ

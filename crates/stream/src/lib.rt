@@ -1,19 +1,16 @@
 // Lines of a buffer, answered one after another, and what of the buffer is kept for later.
 use lines::LineAnswer;
 ghost use mathlib.Core.Path.{_≡_};
-ghost use mathlib.Core.List.{List, [], _∷_, _++_};
-ghost use mathlib.Core.Bool.{Bool, true, false, not, _&&_, _||_, cond};
-ghost use Prim.Native.Nat.{ℕ, _+_, _-_, _*_, _/_, _<_, _≤_, min};
-ghost use lib.Dec.{leb, ltb, eqb};
-ghost use lib.ListN.{length, getD, take, drop};
+ghost use mathlib.Core.List.{[], _∷_};
+ghost use mathlib.Core.Bool.{cond};
+ghost use Prim.Native.Nat.{_+_, _-_, _/_, _<_, _≤_, min};
+ghost use lib.Dec.{eqb};
+ghost use lib.ListN.{length};
 ghost use Rattle.spelling.specs.Write.{put};
-ghost use Rattle.stream.specs.Stream.{lineRoom, linesIn, ended, over, due, pieceText, pieceOf, partText, partOf, heldOf, startOf, stepOf, bufferOf, textOf};
-ghost use Rattle.stream.specs.Printed.{digits, places, decimal, refusedText, answerLine};
-ghost use Rattle.lines.specs.Line.{refusalOf, answerOf, refusalIn, writtenIn, lineAnswer};
-ghost use Rattle.stream.specs.Lines.{newlineAt};
+ghost use Rattle.stream.specs.Stream.{lineRoom, linesIn, pieceText, pieceOf, partText, partOf, heldOf, startOf, stepOf, bufferOf, textOf};
+ghost use Rattle.stream.specs.Printed.{digits, places, refusedText, answerLine};
+ghost use Rattle.lines.specs.Line.{writtenIn, lineAnswer};
 
-// A longer line is refused.
-const MOST_BYTES: usize = 400;
 // The longest answer has 311 bytes; its newline follows.
 const LINE_ROOM: usize = 312;
 
@@ -42,20 +39,6 @@ fn wide(x: u8) -> usize
     ensures { λ r. ⌜ r ≡ x ⌝ }
 {
     x as usize
-}
-
-// Where the first newline stands, or the length.
-fn newline(s: &[u8]) -> usize
-    ensures { λ r. ⌜ (r ≡ newlineAt (now (s .entry))) × (r ≤ length (now (s .entry))) ⌝ }
-{
-    let mut i = 0;
-    while i < s.len() {
-        if s[i] == 10 {
-            return i;
-        }
-        i += 1;
-    }
-    i
 }
 
 // A byte at a place; answers the next place.
@@ -156,9 +139,9 @@ fn fold_piece(s: &[u8], skip: bool, last: bool, out: &mut [u8], at: usize) -> Pa
         × (now (out .exit) ≡ put (now (out .entry)) at (pieceText skip last (now (s .entry)))) ⌝ }
 {
     let n = s.len();
-    let e = newline(s);
+    let e = spelling::find(s, b'\n');
     let ended = e < n;
-    let over = n > MOST_BYTES;
+    let over = n > lines::MOST_BYTES;
     let due = !skip & (ended | over | (last & (n > 0)));
     let used = put_due(due, &s[0..e], out, at);
     let size = choose(skip | over | last, n, 0);

@@ -5,8 +5,8 @@ use mathlib.Core.List.{List, [], _∷_}
 use mathlib.Core.Path.{_≡_, refl, ap, sym, _∙_}
 use borrow.Author.Tests.{eqb-true, eq-eqb, leb-true}
 use lib.Dec.{leb, ltb}
-use lib.ListN.{getD}
-use Rattle.values.specs.Value.{laneCount, isType, kinds, place, sameKind}
+use lib.ListN.{getD, List·getD-eq-default}
+use Rattle.values.specs.Value.{laneCount, isType, kinds, kindAt, place, sameKind}
 use Rattle.values.proofs.Bools.{both, agree}
 use Rattle.values.specs.declared.Scalar.the-variants.{Boolean, I32, U32, F32, F16}
 use Rattle.values.specs.declared.Width.the-variants.{Single, Half}
@@ -14,7 +14,8 @@ use Rattle.values.specs.declared.Size.the-variants.{Two, Three, Four}
 use Rattle.values.specs.declared.Kind.{Kind}
 use Rattle.values.specs.declared.Kind.the-variants.{Empty, One, Vec, Mat}
 
-there : (k : Kind) → getD (Empty ∷ kinds) (place k) Empty ≡ k
+pub there : (k : Kind) → kindAt (place k) ≡ k
+unfolding kindAt
 there Empty = refl
 there (One Boolean) = refl
 there (One I32) = refl
@@ -55,8 +56,16 @@ there (Mat Four Two Half) = refl
 there (Mat Four Three Half) = refl
 there (Mat Four Four Half) = refl
 
+-- so what has a place is the type of it
+pub placed : {k : Kind} {n : ℕ} → place k ≡ n → k ≡ kindAt n
+placed {k} e = sym (there k) ∙ ap kindAt e
+
+pub none-past : (n : ℕ) → 39 ≤ n → kindAt n ≡ Empty
+unfolding kindAt
+none-past n h = List·getD-eq-default (Empty ∷ kinds) Empty h
+
 pub same : {k l : Kind} → sameKind k l ≡ true → k ≡ l
-same {k} {l} t = sym (there k) ∙ ap (λ (n : ℕ). getD (Empty ∷ kinds) n Empty) (eqb-true (place k) (place l) t) ∙ there l
+same {k} {l} t = placed (eqb-true (place k) (place l) t) ∙ there l
 
 pub itself : (k : Kind) → sameKind k k ≡ true
 itself k = eq-eqb (place k) (place k) refl
@@ -72,6 +81,7 @@ passes p (k ∷ l) (suc i) e t = passes p l i e (both (p k) (all p l) t .1)
 
 -- a table over the types is one computed test
 pub each : (p : Kind → Bool) → all p (Empty ∷ kinds) ≡ true → (k : Kind) → p k ≡ true
+unfolding kindAt
 each p t k = ap p (sym (there k)) ∙ passes p (Empty ∷ kinds) (place k) (both (p Empty) (all p kinds) t .0) t
 
 pub lanes-at-most-16 : (k : Kind) → laneCount k ≤ 16

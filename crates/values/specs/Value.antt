@@ -101,6 +101,10 @@ place (One s) = 1 + scalarPlace s
 place (Vec n s) = 6 + 5 * sizePlace n + scalarPlace s
 place (Mat c r w) = 21 + 9 * widthPlace w + 3 * sizePlace c + sizePlace r
 
+-- the type of a place, Empty where no type has it
+unfoldable pub kindAt : ℕ → Kind
+kindAt n = getD (Empty ∷ kinds) n Empty
+
 abbrev pub sameKind : Kind → Kind → Bool
 sameKind k l = eqb (place k) (place l)
 

@@ -1,10 +1,10 @@
 // The value record: a type, each of whose values is a type that is taken or none, beside 16 lanes of bits.
 ghost use mathlib.Core.Path.{_≡_};
 ghost use mathlib.Core.Bool.{_&&_, cond};
-ghost use Prim.Native.Nat.{_+_, _*_, _^_, _≤_};
+ghost use Prim.Native.Nat.{_+_, _*_, _^_, _≤_, _<_};
 ghost use lib.Dec.{ltb, eqb};
 ghost use lib.ListN.{take, drop};
-ghost use Rattle.values.specs.Value.{sizeOf, ofWidth, scalarOf, laneBits, laneCount, isType, shaped, scalarPlace, sizePlace, widthPlace, place, sameKind, value, emptyValue, every, wellFormed};
+ghost use Rattle.values.specs.Value.{sizeOf, ofWidth, scalarOf, laneBits, laneCount, isType, shaped, scalarPlace, sizePlace, widthPlace, place, kindAt, sameKind, value, emptyValue, every, wellFormed};
 ghost use Rattle.values.specs.Four.{low, four};
 
 pub enum Scalar {
@@ -182,6 +182,85 @@ pub fn same_kind(k: Kind, l: Kind) -> bool
     ensures { λ r. ⌜ r ≡ sameKind k l ⌝ }
 {
     place_of(k) == place_of(l)
+}
+
+fn scalar_at(n: u64) -> Scalar
+    requires { ⌜ n < 5 ⌝ }
+    ensures { λ r. ⌜ scalarPlace r ≡ n ⌝ }
+{
+    if n == 0 {
+        return Scalar::Boolean;
+    }
+    if n == 1 {
+        return Scalar::I32;
+    }
+    if n == 2 {
+        return Scalar::U32;
+    }
+    if n == 3 {
+        return Scalar::F32;
+    }
+    Scalar::F16
+}
+
+fn size_at(n: u64) -> Size
+    requires { ⌜ n < 3 ⌝ }
+    ensures { λ r. ⌜ sizePlace r ≡ n ⌝ }
+{
+    if n == 0 {
+        return Size::Two;
+    }
+    if n == 1 {
+        return Size::Three;
+    }
+    Size::Four
+}
+
+fn width_at(n: u64) -> Width
+    requires { ⌜ n < 2 ⌝ }
+    ensures { λ r. ⌜ widthPlace r ≡ n ⌝ }
+{
+    if n == 0 { Width::Single } else { Width::Half }
+}
+
+fn one_at(n: u64) -> Kind
+    requires { ⌜ n < 5 ⌝ }
+    ensures { λ r. ⌜ place r ≡ 1 + n ⌝ }
+{
+    Kind::One(scalar_at(n))
+}
+
+fn vec_at(n: u64) -> Kind
+    requires { ⌜ n < 15 ⌝ }
+    ensures { λ r. ⌜ place r ≡ 6 + n ⌝ }
+{
+    Kind::Vec(size_at(n / 5), scalar_at(n % 5))
+}
+
+fn mat_at(n: u64) -> Kind
+    requires { ⌜ n < 18 ⌝ }
+    ensures { λ r. ⌜ place r ≡ 21 + n ⌝ }
+{
+    Kind::Mat(size_at(n % 9 / 3), size_at(n % 3), width_at(n / 9))
+}
+
+// The type of a place.
+pub fn kind_at(n: u64) -> Kind
+    ensures { λ r. ⌜ r ≡ kindAt n ⌝ }
+{
+    if n == 0 {
+        return Kind::Empty;
+    }
+    if n < 6 {
+        return one_at(n - 1);
+    }
+    if n < 21 {
+        return vec_at(n - 6);
+    }
+    if n < 39 {
+        return mat_at(n - 21);
+    }
+    Kind::Empty
 }
 
 // ---- the value check

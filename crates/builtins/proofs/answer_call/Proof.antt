@@ -1,5 +1,5 @@
 -- A call that is not refused has as many arguments as its row. Assumes nothing.
-use Rattle.builtins.proofs.Passed.{at-arity}
+use Rattle.calls.proofs.Passed.{at-arity}
 use Rattle.builtins.proofs.answer_call.Statement.{statement}
 use Rattle.builtins.proofs.answer_call.Tie as tie
 

@@ -2,7 +2,7 @@
 use Prim.Native.Nat.{ℕ, zero, suc}
 use mathlib.Core.Path.{_≡_, refl, sym, _∙_}
 use borrow.Author.Needs.{needs}
-use Rattle.builtins.specs.declared.Call.{Call}
+use Rattle.calls.specs.declared.Call.{Call}
 use Rattle.builtins.specs.Fold.{refused, foldBy, foldOf}
 use Rattle.builtins.proofs.fold.Statement.{statement}
 use Rattle.builtins.proofs.fold.Tie as tie

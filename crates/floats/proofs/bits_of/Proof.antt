@@ -1,6 +1,6 @@
 -- `floats::bits_of` meets its contract: a float that differs from itself is the NaN. Assumes nothing.
 use borrow.Author.Needs.{needs}
-use mathlib.Core.Path.{_≡_, sym, ap, subst}
+use mathlib.Core.Path.{sym, ap, subst}
 use lib.Dec.{T}
 use lib.Ieee.{binary32, toBits}
 use lib.Ieee.Compare.{differs-from-itself}

@@ -1,11 +1,13 @@
--- `half::f16_to_f32` meets its contract: its two tests are those of the definition, and an f32's magnitude leaves room for the sign.
+-- `half::f16_to_f32` meets its contract: its test is that of the definition, and an f32's magnitude leaves room for the sign.
 -- Assumes nothing.
 use borrow.Author.Needs.{needs}
-use Prim.Native.Nat.{_%_}
+use mathlib.Core.Path.{ap}
+use Prim.Native.Nat.{ℕ, _+_, _%_}
 use native.Mathlib.Omega.{arith}
-use borrow.Author.Tests.{lt-ltb, le-ltb, le-leb, lt-leb}
+use borrow.Author.Tests.{lt-ltb, le-ltb}
 use Rattle.half.specs.Format.{f16, f32}
-use Rattle.half.specs.Convert.{converted}
+use Rattle.half.specs.Convert.{converted, convertedMagnitude}
+use Rattle.half.proofs.Signs.{sign-moved}
 use Rattle.half.proofs.Conversion.{converted-most}
 use Rattle.half.proofs.f16_to_f32.Statement.{statement}
 use Rattle.half.proofs.f16_to_f32.Tie as tie
@@ -17,19 +19,23 @@ returns : tie.Need-returns
 unfolding converted
 returns c = simp (lt-ltb _ _ (c .if1 .taken))
 
+cast-result : tie.Need-cast-result
+cast-result c = search needs
+
+mul-result : tie.Need-mul-result
+mul-result c = search needs
+
 single-magnitude-requires : tie.Need-single-magnitude-requires
 single-magnitude-requires c κs = search needs
 
 add-result : tie.Need-add-result
-add-result c = omega (arith, converted-most f16 f32 (c .before .before .before .args .h % 0x8000))
+add-result c = omega (arith, converted-most f16 f32 (c .before .before .args .h % 0x8000))
 
 returns-2 : tie.Need-returns-2
 unfolding converted
-returns-2 c = simp (le-ltb _ _ (c .before .before .if1 .left), lt-leb _ _ (c .if2 .taken)) (omega arith)
-
-returns-3 : tie.Need-returns-3
-unfolding converted
-returns-3 c = simp (le-ltb _ _ (c .before .before .if1 .left), le-leb _ _ (c .if2 .left)) (omega arith)
+returns-2 c =
+    let h = c .before .before .args .h in
+    simp (le-ltb _ _ (c .before .if1 .left)) (rw (c .single-magnitude .ensures) (ap (λ (s : ℕ). s + convertedMagnitude f16 f32 (h % 0x8000)) (sign-moved f16 f32 h (search needs))))
 
 pub f16-to-f32-spec : {M : Type 1} → statement M
-f16-to-f32-spec = tie.close (tie.spec cast-m returns single-magnitude-requires add-result returns-2 returns-3)
+f16-to-f32-spec = tie.close (tie.spec cast-m returns cast-result mul-result single-magnitude-requires add-result returns-2)

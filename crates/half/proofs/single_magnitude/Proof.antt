@@ -68,8 +68,8 @@ subnormal m l h d =
     sum : (l : ℕ) → 22 ≤ l → l ≤ 31 → l - 8 + (133 - l) ≡ 125
     sum l h k = omega arith
 
-digits-at : (c : tie.Else3) → Digits (c .before .before .before .args .m) (leadingZeros 32 (c .before .before .before .args .m))
-digits-at c = digits (c .before .before .before .args .m) (c .if3 .left) (c .before .if2 .left)
+digits-at : (c : tie.Else3) → Digits (c .before .before .args .m) (leadingZeros 32 (c .before .before .args .m))
+digits-at c = digits (c .before .before .args .m) (c .if3 .left) (c .before .if1 .left)
 
 mul-result : tie.Need-mul-result
 mul-result c = search needs
@@ -93,19 +93,19 @@ add-result-2 : tie.Need-add-result-2
 add-result-2 c = omega (arith, digits-at c .led .shifted, digits-at c .led .high, digits-at c .least)
 
 returns : tie.Need-returns
-returns c = sym (infinite-is f16 f32 _ (c .if1 .taken))
+returns c = normal _ (c .before .if1 .taken) (c .if2 .taken)
 
 returns-2 : tie.Need-returns-2
-returns-2 c = normal _ (c .if2 .taken) (c .before .if1 .left)
+returns-2 c = sym (infinite-is f16 f32 _ (c .if2 .left))
 
 returns-3 : tie.Need-returns-3
 returns-3 c = nought _ (c .if3 .taken)
 
 returns-4 : tie.Need-returns-4
 returns-4 c =
-    let m = c .before .before .before .args .m in
+    let m = c .before .before .args .m in
     let l = leadingZeros 32 m in
-    ap (λ (x : ℕ). (133 - l) * 0x80_0000 + x) (digits-at c .led .shifted) ∙ subnormal m l (c .before .if2 .left) (digits-at c)
+    ap (λ (x : ℕ). (133 - l) * 0x80_0000 + x) (digits-at c .led .shifted) ∙ subnormal m l (c .before .if1 .left) (digits-at c)
 
 pub single-magnitude-spec : {M : Type 1} → statement M
 single-magnitude-spec =
@@ -113,12 +113,12 @@ single-magnitude-spec =
     (tie.spec
     mul-result
     add-result
+    returns
+    returns-2
+    returns-3
     sub-result
     mul-result-2
     sub-result-2
     shl-result
     add-result-2
-    returns
-    returns-2
-    returns-3
     returns-4)

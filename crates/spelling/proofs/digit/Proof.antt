@@ -1,27 +1,24 @@
--- One answer for each range of bytes. Assumes nothing.
-use borrow.Author.Tests.{lt-ltb, le-ltb, le-leb, lt-leb}
+-- The entry is the table's; that a digit is at most 16 is computed for all bytes. Assumes nothing.
 use native.Mathlib.Omega.{arith}
+use mathlib.Core.Path.{refl}
 use borrow.Author.Needs.{needs}
+use borrow.Author.Tests.{leb-true}
+use lib.Dec.{leb}
+use Rattle.spelling.specs.Hex.{digitOf}
+use Rattle.spelling.proofs.Tested.{below, below-at}
 use Rattle.spelling.proofs.digit.Statement.{statement}
 use Rattle.spelling.proofs.digit.Tie as tie
 
+element-copy-out-result : tie.Need-element-copy-out-result
+element-copy-out-result c = search needs
+
 returns : tie.Need-returns
-returns c = (simp (lt-ltb _ _ (c .if1 .taken)), omega arith)
-
-returns-2 : tie.Need-returns-2
-returns-2 c = (simp (le-ltb _ _ (c .before .if1 .left), le-leb _ _ (c .if2 .taken)), omega arith)
-
-returns-3 : tie.Need-returns-3
-returns-3 c = (simp (le-ltb _ _ (c .before .before .if1 .left), lt-leb _ _ (c .before .if2 .left), lt-ltb _ _ (c .if3 .taken)), omega arith)
-
-add-result : tie.Need-add-result
-add-result c = search needs
-
-returns-4 : tie.Need-returns-4
-returns-4 c = (simp (le-ltb _ _ (c .before .before .before .if1 .left), lt-leb _ _ (c .before .before .if2 .left), le-ltb _ _ (c .before .if3 .left), le-leb _ _ (c .if4 .taken)), omega arith)
-
-returns-5 : tie.Need-returns-5
-returns-5 c = (simp (le-ltb _ _ (c .before .before .before .if1 .left), lt-leb _ _ (c .before .before .if2 .left), le-ltb _ _ (c .before .if3 .left), lt-leb _ _ (c .if4 .left)), search needs)
+unfolding below
+returns c =
+    let b = c .before .args .b in
+    let e = c .before .pre .entry b (search needs) in
+    let h = leb-true (digitOf b) 16 (below-at (λ x. leb (digitOf x) 16) 256 b refl (search needs)) in
+    (e, omega arith)
 
 pub digit-spec : {M : Type 1} → statement M
-digit-spec = tie.close (tie.spec returns returns-2 returns-3 add-result returns-4 returns-5)
+digit-spec = tie.close (tie.spec element-copy-out-result returns)

@@ -1,7 +1,7 @@
 -- The invariant: what is to stand in the memory at the end, said over the memory as it is, stays the same with each digit. Assumes nothing.
 use Rattle.spelling.specs.Write.{put}
 use Rattle.spelling.proofs.Texts.{length-hex}
-use Prim.Native.Nat.{_+_, _≤_}
+use Prim.Native.Nat.{_+_, _%_, _≤_}
 use native.Mathlib.Omega.{arith}
 use borrow.Author.Needs.{needs}
 use mathlib.Core.Path.{_≡_, refl, sym, _∙_}
@@ -13,12 +13,15 @@ use Rattle.spelling.proofs.put_hex.Statement.{statement}
 use Rattle.spelling.proofs.put_hex.Tie as tie
 
 abbrev Inv-loop : tie.InvT-loop
-Inv-loop out₀ at n v rest₀ i₀ out rest i =
+Inv-loop out₀ at n v hex rest₀ i₀ out rest i =
     (i ≤ n) × (length out ≡ length out₀)
     × (take at out₀ ++ hexBytes n v ++ drop (at + n) out₀ ≡ take at out ++ hexBytes i rest ++ drop (at + i) out)
 
 abbrev μ-loop : tie.MeasureT-loop
-μ-loop out₀ at n v rest₀ i₀ out rest i = i
+μ-loop out₀ at n v hex rest₀ i₀ out rest i = i
+
+hex-table-requires : tie.Need-hex-table-requires Inv-loop μ-loop
+hex-table-requires c κs = search needs
 
 loop-holds : tie.Need-loop-holds Inv-loop μ-loop
 loop-holds c = (search needs, refl, refl)
@@ -26,8 +29,8 @@ loop-holds c = (search needs, refl, refl)
 sub-i : tie.Need-sub-i Inv-loop μ-loop
 sub-i c = search needs
 
-hex-byte-requires : tie.Need-hex-byte-requires Inv-loop μ-loop
-hex-byte-requires c κs = search needs
+array-read-out : tie.Need-array-read-out Inv-loop μ-loop
+array-read-out c = search needs
 
 add-out : tie.Need-add-out Inv-loop μ-loop
 add-out c = search needs
@@ -41,10 +44,10 @@ loop-less c = search needs
 loop-again : tie.Need-loop-again Inv-loop μ-loop
 loop-again c =
     let a = c .before .before .before .before .args in
-    let l = c .before .before .loop in (
+    let l = c .before .loop in (
       search needs,
       simp length-set (search needs),
-      l .inv .2 ∙ rw (c .hex-byte .ensures) (put-turn (l .out) (a .at) (l .i) (l .rest) (search needs) (omega arith)),
+      l .inv .2 ∙ rw (c .before .before .hex-table .ensures .entry (l .rest % 16) (search needs)) (put-turn (l .out) (a .at) (l .i) (l .rest) (search needs) (omega arith)),
     )
 
 same-length : tie.Need-same-length Inv-loop μ-loop
@@ -53,9 +56,10 @@ same-length c = search needs
 returns : tie.Need-returns Inv-loop μ-loop
 unfolding put
 returns c =
-    let a = c .before .before .before .args in
-    let z : c .before .loop .i ≡ 0 = omega arith in
-    rw length-hex (sym (c .before .loop .inv .2 ∙ rw z (put-end (c .before .loop .out) (a .at) (c .before .loop .rest))))
+    let a = c .before .before .before .before .args in
+    let l = c .before .loop in
+    let z : l .i ≡ 0 = omega arith in
+    rw length-hex (sym (l .inv .2 ∙ rw z (put-end (l .out) (a .at) (l .rest))))
 
 pub put-hex-spec : {M : Type 1} → statement M
 put-hex-spec =
@@ -63,9 +67,10 @@ put-hex-spec =
     (tie.spec
     Inv-loop
     μ-loop
+    hex-table-requires
     loop-holds
     sub-i
-    hex-byte-requires
+    array-read-out
     add-out
     slice-write-out
     loop-less

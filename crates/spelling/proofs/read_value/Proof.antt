@@ -9,8 +9,8 @@ use borrow.Author.Needs.{needs}
 use Rattle.spelling.proofs.read_value.Statement.{statement}
 use Rattle.spelling.proofs.read_value.Tie as tie
 
-find-colon-requires : tie.Need-find-colon-requires
-find-colon-requires c κs = search needs
+find-requires : tie.Need-find-requires
+find-requires c κs = search needs
 
 wrong-at-requires : tie.Need-wrong-at-requires
 wrong-at-requires c κs = search needs
@@ -55,13 +55,13 @@ returns-2 : tie.Need-returns-2
 unfolding readValue
 returns-2 c =
     let s = c .before .before .before .before .before .before .before .args .s .now in
-    cut-at s (c .before .before .before .before .before .find-colon .ensures .0) (omega arith) (c .before .before .type-of .ensures) (c .read-of .ensures)
+    cut-at s (c .before .before .before .before .before .find .ensures .0) (omega arith) (c .before .before .type-of .ensures) (c .read-of .ensures)
 
 pub read-value-spec : {M : Type 1} → statement M
 read-value-spec =
     tie.close
     (tie.spec
-    find-colon-requires
+    find-requires
     wrong-at-requires
     returns
     sub-type-of

@@ -16,8 +16,8 @@ use Rattle.stream.proofs.Parts.{same-part}
 use Rattle.stream.proofs.fold_piece.Statement.{statement}
 use Rattle.stream.proofs.fold_piece.Tie as tie
 
-newline-requires : tie.Need-newline-requires
-newline-requires c κs = search needs
+find-requires : tie.Need-find-requires
+find-requires c κs = search needs
 
 sub-put-due : tie.Need-sub-put-due
 sub-put-due c = search needs
@@ -45,8 +45,8 @@ unfolding pieceOf pieceSize pieceSkip pieceText due
 returns c =
     let a = c .before .before .before .before .before .before .before .before .before .before .args in
     let s = a .s .now in
-    let e = c .before .before .before .before .before .before .before .newline .result in
-    let q : e ≡ newlineAt s = c .before .before .before .before .before .before .before .newline .ensures .0 in
+    let e = c .before .before .before .before .before .before .before .find .result in
+    let q : e ≡ newlineAt s = c .before .before .before .before .before .before .before .find .ensures .0 in
     let z : e - 0 ≡ e = omega arith in
     let p = c .before .before .before .before .put-due .ensures in
     let t : cond (not (a .skip) && (ltb e (length s) || ltb mostBytes (length s) || (a .last && ltb 0 (length s)))) (answerLine (take (e - 0) s)) [] ≡ pieceText (a .skip) (a .last) s
@@ -59,7 +59,7 @@ pub fold-piece-spec : {M : Type 1} → statement M
 fold-piece-spec =
     tie.close
     (tie.spec
-    newline-requires
+    find-requires
     sub-put-due
     part-put-due-start
     part-put-due-end

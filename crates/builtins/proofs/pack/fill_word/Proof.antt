@@ -15,4 +15,4 @@ fill-word-spec =
     (λ c κs. search needs)
     (λ c. search needs)
     (λ c κs. search needs)
-    (λ c. cc))
+    (λ c. rw (c .fill-from4 .ensures, c .before .fill-from3 .ensures, c .before .before .fill-from2 .ensures, c .before .before .before .fill-from .ensures)))

@@ -11,4 +11,4 @@ lanes16-spec =
     (λ c κs. search needs)
     (λ c κs. search needs)
     (λ c κs. search needs)
-    (λ c. cc))
+    (λ c. rw (c .lane162 .ensures, c .before .low162 .ensures, c .before .before .lane16 .ensures, c .before .before .before .low16 .ensures)))

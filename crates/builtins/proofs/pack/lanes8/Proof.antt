@@ -15,4 +15,4 @@ lanes8-spec =
     (λ c κs. search needs)
     (λ c κs. search needs)
     (λ c κs. search needs)
-    (λ c. cc))
+    (λ c. rw (c .lane84 .ensures, c .before .low84 .ensures, c .before .before .lane83 .ensures, c .before .before .before .low83 .ensures, c .before .before .before .before .lane82 .ensures, c .before .before .before .before .before .low82 .ensures, c .before .before .before .before .before .before .lane8 .ensures, c .before .before .before .before .before .before .before .low8 .ensures)))

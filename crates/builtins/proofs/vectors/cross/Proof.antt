@@ -1,5 +1,5 @@
 -- The lanes are the definition's, as the cut loses nothing. Assumes nothing.
-use mathlib.Core.Path.{_≡_, _∙_}
+use mathlib.Core.Path.{_∙_}
 use borrow.Author.Needs.{needs}
 use Rattle.values.proofs.Places.{same}
 use Rattle.builtins.proofs.Products.{cross-is}

@@ -1,6 +1,6 @@
 -- The lanes that are summed are the definition's, as the cut loses nothing. Assumes nothing.
 use mathlib.Core.List.{[], _∷_}
-use mathlib.Core.Path.{_≡_, _∙_}
+use mathlib.Core.Path.{_∙_}
 use borrow.Author.Needs.{needs}
 use Rattle.values.specs.declared.Scalar.the-variants.{I32, U32, F32}
 use Rattle.builtins.proofs.Products.{dot-is}

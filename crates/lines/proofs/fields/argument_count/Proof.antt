@@ -1,3 +1,4 @@
+-- The invariant: the arguments of the whole are those counted and those of what is left from i on. Assumes nothing.
 use borrow.Author.Needs.{needs}
 use Prim.Native.Nat.{_+_, _-_, _≤_}
 use mathlib.Core.Path.{_≡_}
@@ -17,11 +18,11 @@ abbrev μ-loop : tie.MeasureT-loop
 loop-holds : tie.Need-loop-holds Inv-loop μ-loop
 loop-holds c = search needs
 
-shared-slice-read-tab-here : tie.Need-shared-slice-read-tab-here Inv-loop μ-loop
-shared-slice-read-tab-here c = search needs
+shared-slice-read-one-if : tie.Need-shared-slice-read-one-if Inv-loop μ-loop
+shared-slice-read-one-if c = search needs
 
-tab-here-requires : tie.Need-tab-here-requires Inv-loop μ-loop
-tab-here-requires c κs = search needs
+one-if-requires : tie.Need-one-if-requires Inv-loop μ-loop
+one-if-requires c κs = search needs
 
 add-n : tie.Need-add-n Inv-loop μ-loop
 add-n c = search needs
@@ -33,7 +34,7 @@ loop-less : tie.Need-loop-less Inv-loop μ-loop
 loop-less c = search needs
 
 loop-again : tie.Need-loop-again Inv-loop μ-loop
-loop-again c = let l = c .before .before .before .loop in let s = count-step (c .before .before .before .before .before .args .line .now) (l .i) (c .tab-here .result) (search needs) (c .tab-here .ensures .0) in (omega arith, omega arith, omega arith)
+loop-again c = let l = c .before .before .before .loop in let s = count-step (c .before .before .before .before .before .args .line .now) (l .i) (c .one-if .result) (search needs) (c .one-if .ensures .0) in (omega arith, omega arith, omega arith)
 
 returns : tie.Need-returns Inv-loop μ-loop
 returns c = let l = c .before .loop in let e : l .i ≡ length (c .before .before .before .args .line .now) = omega arith in let z : argumentCount (drop (l .i) (c .before .before .before .args .line .now)) ≡ 0 = rw e (count-end (c .before .before .before .args .line .now)) in omega arith
@@ -45,8 +46,8 @@ argument-count-spec =
     Inv-loop
     μ-loop
     loop-holds
-    shared-slice-read-tab-here
-    tab-here-requires
+    shared-slice-read-one-if
+    one-if-requires
     add-n
     add-i
     loop-less

@@ -4,7 +4,7 @@ use Prim.Native.Nat.{ℕ}
 use Rattle.spelling.specs.Text.{sameBytes}
 use native.Mathlib.Omega.{arith}
 use native.Mathlib.Numerals.{add-one}
-use Rattle.lines.specs.Names.{start}
+use Rattle.lines.specs.Slots.{start}
 use Rattle.lines.proofs.NamePlaces.{rises, inside, cut}
 use borrow.Author.Needs.{needs}
 use Rattle.lines.proofs.names.named.Statement.{statement}

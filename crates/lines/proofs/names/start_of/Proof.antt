@@ -1,18 +1,22 @@
-use mathlib.Core.Path.{refl}
-use Rattle.lines.specs.Names.{start}
+-- The table is the definition's, computed. Assumes nothing.
+use Rattle.lines.specs.Slots.{start}
 use borrow.Author.Needs.{needs}
 use Rattle.lines.proofs.names.start_of.Statement.{statement}
 use Rattle.lines.proofs.names.start_of.Tie as tie
 
-mul-result : tie.Need-mul-result
-mul-result c = search needs
+mul-wide-start : tie.Need-mul-wide-start
+mul-wide-start c = search needs
 
-array-read-result : tie.Need-array-read-result
-array-read-result c = search needs
+array-read-wide-start : tie.Need-array-read-wide-start
+array-read-wide-start c = search needs
+
+wide-start-requires : tie.Need-wide-start-requires
+wide-start-requires c κs = search needs
 
 returns : tie.Need-returns
 unfolding start
-returns c = refl
+returns c = c .wide-start .ensures
 
 pub start-of-spec : {M : Type 1} → statement M
-start-of-spec = tie.close (tie.spec mul-result array-read-result returns)
+start-of-spec =
+    tie.close (tie.spec mul-wide-start array-read-wide-start wide-start-requires returns)

@@ -1,0 +1,163 @@
+/* Chanrelout: WGSL constant folding, proved. Link libchanrelout.a, which `rt staticlib chanrelout` writes to
+   target/staticlib. It allocates nothing, keeps no state, may be called from several threads at once, and needs of the
+   C library only memcpy and memset.
+
+   Every call ends, whatever its arguments hold. The library reads only the slices that it is lent, and writes only
+   where a function below says so. A pointer of a slice of length 0 is not followed, but must not be null. */
+
+#ifndef CHANRELOUT_H
+#define CHANRELOUT_H
+
+#include <stddef.h>
+#include <stdint.h>
+
+#ifdef __cplusplus
+extern "C" {
+#endif
+
+/* ---- refusals
+
+   A call is answered, or refused with one of these numbers: the first that applies in the order 7, 1, 2, 3, 4, 5, 6,
+   8. A refusal leaves lent memory as it was. */
+
+enum chanrelout_refusal {
+    CHANRELOUT_ANSWERED = 0,
+    CHANRELOUT_UNKNOWN_BUILTIN = 1, /* no builtin has that name or number */
+    CHANRELOUT_ARGUMENT_COUNT = 2,  /* the builtin takes another number of arguments; bitcast's type counts as one */
+    CHANRELOUT_BAD_VALUE = 3,       /* a value is misspelled or not well formed, or bitcast's type is none */
+    CHANRELOUT_TYPE_NOT_TAKEN = 4,  /* the builtin does not take an argument of that type in that place */
+    CHANRELOUT_TYPES_DIFFER = 5,    /* each argument alone is taken, but not together */
+    CHANRELOUT_SIZES_DIFFER = 6,    /* bitcast between types of different sizes */
+    CHANRELOUT_LINE_TOO_LONG = 7,   /* the line has more than 400 bytes */
+    CHANRELOUT_NO_ROOM = 8          /* the lent memory is too short for the answer */
+};
+
+/* ---- lines: a call spelled as text
+
+   line     the call: the builtin's name and its arguments, a tab before each. A value is its type, a colon, and its
+            lanes in upper-case hex, parted by commas: 8 digits a lane, 4 for f16, 1 for bool. No newline.
+   line_len its bytes. Above 400 it is refused.
+   out      where the answer is written, without a newline and without a NUL. It must not overlap line.
+   out_len  how many bytes may be written there. CHANRELOUT_LONGEST_ANSWER are always enough.
+   Answers a number that chanrelout_line_refusal and chanrelout_line_length take apart. Bytes of out past the answer
+   stay as they were; of a refused line, all of them do. */
+
+#define CHANRELOUT_LONGEST_ANSWER 311
+
+uint64_t chanrelout_line(const uint8_t *line, size_t line_len, uint8_t *out, size_t out_len);
+
+static inline enum chanrelout_refusal chanrelout_line_refusal(uint64_t answer)
+{
+    return (enum chanrelout_refusal)(answer >> 32);
+}
+
+static inline size_t chanrelout_line_length(uint64_t answer)
+{
+    return (size_t)(answer & 0xFFFFFFFF);
+}
+
+/* ---- records: a call as words of 64 bits */
+
+/* A value: the number of its type and its lanes as bits, lane 0 first; a matrix column by column. Lanes past the
+   type's are 0, a bool is 0 or 1, and a lane of the others has no bit above its 32 or, for f16, its 16. */
+struct chanrelout_value {
+    uint64_t type;
+    uint64_t lanes[16];
+};
+
+/* A call of 54 words: a builtin, how many arguments it is given, the type that bitcast is to give (not looked at
+   elsewhere; it counts as an argument, so that bitcast's count is 2 and its value stands in arguments[0]), and the
+   arguments. Arguments past the count are not looked at, so that words past them may be left out of the slice. */
+struct chanrelout_call {
+    uint64_t builtin;
+    uint64_t count;
+    uint64_t target;
+    struct chanrelout_value arguments[3];
+};
+
+/* An answer of 34 words. Only frexp has a second value, the exponent; elsewhere its words are 0. */
+struct chanrelout_answer {
+    struct chanrelout_value first;
+    struct chanrelout_value second;
+};
+
+/* call     the words of a struct chanrelout_call, or some of them from the first on: a value of which not all words
+            are there is none, and any other word that is not there is 0.
+   call_len how many words. Words past the 54th are not looked at.
+   out      where the answer's 34 words are written. It must not overlap call.
+   out_len  how many words may be written there. Below 34 a call that would be answered gives CHANRELOUT_NO_ROOM.
+   Answers a number of enum chanrelout_refusal. */
+
+uint8_t chanrelout_call(const uint64_t *call, size_t call_len, uint64_t *out, size_t out_len);
+
+/* The same for a record. */
+static inline enum chanrelout_refusal chanrelout_fold(const struct chanrelout_call *call, struct chanrelout_answer *out)
+{
+    return (enum chanrelout_refusal)chanrelout_call((const uint64_t *)call, sizeof *call / 8, (uint64_t *)out,
+                                                    sizeof *out / 8);
+}
+
+/* Types. A vector's number is CHANRELOUT_VECTOR of its lanes (2 to 4) and its scalar, a matrix's CHANRELOUT_MATRIX of
+   its columns and rows (2 to 4) and of CHANRELOUT_F32 or CHANRELOUT_F16. */
+enum chanrelout_type {
+    CHANRELOUT_NO_TYPE = 0,
+    CHANRELOUT_BOOL = 1,
+    CHANRELOUT_I32 = 2,
+    CHANRELOUT_U32 = 3,
+    CHANRELOUT_F32 = 4,
+    CHANRELOUT_F16 = 5
+};
+
+#define CHANRELOUT_VECTOR(lanes, scalar) (5 * ((lanes) - 1) + (scalar))
+#define CHANRELOUT_MATRIX(columns, rows, scalar) \
+    (21 + 9 * ((scalar) == CHANRELOUT_F16) + 3 * ((columns) - 2) + ((rows) - 2))
+
+/* Builtins, in the order of the table in docs/01-scope.md. */
+enum chanrelout_builtin {
+    CHANRELOUT_ALL = 1,
+    CHANRELOUT_ANY,
+    CHANRELOUT_SELECT,
+    CHANRELOUT_ABS,
+    CHANRELOUT_SIGN,
+    CHANRELOUT_COUNT_LEADING_ZEROS,
+    CHANRELOUT_COUNT_ONE_BITS,
+    CHANRELOUT_COUNT_TRAILING_ZEROS,
+    CHANRELOUT_MIN,
+    CHANRELOUT_MAX,
+    CHANRELOUT_CLAMP,
+    CHANRELOUT_SATURATE,
+    CHANRELOUT_STEP,
+    CHANRELOUT_CROSS,
+    CHANRELOUT_DOT,
+    CHANRELOUT_TRANSPOSE,
+    CHANRELOUT_FREXP,
+    CHANRELOUT_LDEXP,
+    CHANRELOUT_BITCAST,
+    CHANRELOUT_PACK4X8SNORM,
+    CHANRELOUT_PACK4X8UNORM,
+    CHANRELOUT_PACK4XI8,
+    CHANRELOUT_PACK4XI8_CLAMP,
+    CHANRELOUT_PACK4XU8,
+    CHANRELOUT_PACK4XU8_CLAMP,
+    CHANRELOUT_PACK2X16SNORM,
+    CHANRELOUT_PACK2X16UNORM,
+    CHANRELOUT_PACK2X16FLOAT,
+    CHANRELOUT_UNPACK4X8SNORM,
+    CHANRELOUT_UNPACK4X8UNORM,
+    CHANRELOUT_UNPACK4XI8,
+    CHANRELOUT_UNPACK4XU8,
+    CHANRELOUT_UNPACK2X16SNORM,
+    CHANRELOUT_UNPACK2X16UNORM,
+    CHANRELOUT_UNPACK2X16FLOAT
+};
+
+/* ---- half conversion, both sides as bits: to the nearest, ties to the even one, and exact on the way back */
+
+uint16_t chanrelout_f32_to_f16(uint32_t bits);
+uint32_t chanrelout_f16_to_f32(uint16_t bits);
+
+#ifdef __cplusplus
+}
+#endif
+
+#endif

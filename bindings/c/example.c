@@ -1,0 +1,62 @@
+/* Packs a colour, unpacks it again and folds a line: ./run builds and runs this. */
+
+#include "chanrelout.h"
+
+#include <inttypes.h>
+#include <stdio.h>
+#include <string.h>
+
+static void print_value(const char *what, const struct chanrelout_value *value, size_t lanes)
+{
+    printf("%-16s", what);
+    for (size_t i = 0; i < lanes; i++)
+        printf(" %08" PRIX64, value->lanes[i]);
+    putchar('\n');
+}
+
+static uint64_t bits_of(float x)
+{
+    uint32_t bits;
+    memcpy(&bits, &x, sizeof bits);
+    return bits;
+}
+
+int main(void)
+{
+    /* A call as a record: pack4x8unorm of four floats. */
+    struct chanrelout_call pack = {.builtin = CHANRELOUT_PACK4X8UNORM, .count = 1};
+    pack.arguments[0].type = CHANRELOUT_VECTOR(4, CHANRELOUT_F32);
+    const float colour[4] = {1.0f, 0.5f, 0.0f, -1.0f};
+    for (int i = 0; i < 4; i++)
+        pack.arguments[0].lanes[i] = bits_of(colour[i]);
+
+    struct chanrelout_answer packed;
+    enum chanrelout_refusal refusal = chanrelout_fold(&pack, &packed);
+    if (refusal != CHANRELOUT_ANSWERED) {
+        fprintf(stderr, "refused, %d\n", refusal);
+        return 1;
+    }
+    print_value("packed", &packed.first, 1);
+
+    /* What it gave is the next call's argument as it stands. */
+    struct chanrelout_call unpack = {.builtin = CHANRELOUT_UNPACK4X8UNORM, .count = 1};
+    unpack.arguments[0] = packed.first;
+    struct chanrelout_answer unpacked;
+    if (chanrelout_fold(&unpack, &unpacked) != CHANRELOUT_ANSWERED)
+        return 1;
+    print_value("unpacked", &unpacked.first, 4);
+
+    /* A call that is refused leaves the answer as it was. */
+    unpack.arguments[0].type = CHANRELOUT_I32;
+    refusal = chanrelout_fold(&unpack, &unpacked);
+    printf("%-16s %d\n", "an i32 unpacked", refusal);
+
+    /* The same call as a line. */
+    const char *line = "frexp\tf32:00000001";
+    char out[CHANRELOUT_LONGEST_ANSWER];
+    uint64_t answer = chanrelout_line((const uint8_t *)line, strlen(line), (uint8_t *)out, sizeof out);
+    if (chanrelout_line_refusal(answer) != CHANRELOUT_ANSWERED)
+        return 1;
+    printf("%-16s %.*s\n", "frexp", (int)chanrelout_line_length(answer), out);
+    return 0;
+}

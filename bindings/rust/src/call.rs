@@ -1,0 +1,149 @@
+use crate::{ffi, value::VALUE_WORDS, Builtin, Refusal, Type, Value};
+
+const SLOTS: usize = 3;
+const HEAD_WORDS: usize = 3;
+
+/// How many words a call has: builtin, count of arguments, bitcast's type, and three values of 17 words, each the
+/// number of its type and 16 lanes.
+pub const CALL_WORDS: usize = HEAD_WORDS + SLOTS * VALUE_WORDS;
+
+/// How many words an answer has: two values.
+pub const ANSWER_WORDS: usize = 2 * VALUE_WORDS;
+
+/// The library's own call, on words: bindings/c/chanrelout.h says what stands where. Writes the answer's words to the
+/// start of `out`, or nothing where the call is refused.
+#[inline]
+pub fn fold_words(call: &[u64], out: &mut [u64]) -> Result<(), Refusal> {
+    // SAFETY: each pointer and length are those of a slice, and a shared and an exclusive one do not overlap.
+    let number = unsafe { ffi::chanrelout_call(call.as_ptr(), call.len(), out.as_mut_ptr(), out.len()) };
+    Refusal::from_number(number).map_or(Ok(()), Err)
+}
+
+/// A call, in the words that the library reads: builtin, count of arguments, bitcast's type, then the arguments.
+#[derive(Clone, Copy, Debug, PartialEq, Eq)]
+pub struct Call {
+    words: [u64; CALL_WORDS],
+    len: usize,
+}
+
+/// What a call gives. Only frexp has a second value, the exponent.
+#[derive(Clone, Copy, Debug, PartialEq, Eq)]
+pub struct Answer {
+    /// The value, of frexp the fraction.
+    pub first: Value,
+    /// frexp's exponent.
+    pub second: Option<Value>,
+}
+
+impl Call {
+    /// A call of a builtin but bitcast. Any number of arguments may be given; a wrong one is refused by
+    /// [`Call::fold`].
+    pub fn new(builtin: Builtin, arguments: &[Value]) -> Call {
+        Call::of(builtin, None, arguments, arguments.len())
+    }
+
+    /// A bitcast to a type.
+    pub fn bitcast(target: Type, value: Value) -> Call {
+        Call::of(Builtin::Bitcast, Some(target), &[value], 2)
+    }
+
+    fn of(builtin: Builtin, target: Option<Type>, arguments: &[Value], count: usize) -> Call {
+        let mut words = [0; CALL_WORDS];
+        words[0] = builtin.number();
+        words[1] = count as u64;
+        words[2] = target.map_or(0, Type::number);
+        let slots = arguments.len().min(SLOTS);
+        for (slot, argument) in words[HEAD_WORDS..].chunks_exact_mut(VALUE_WORDS).zip(arguments) {
+            slot.copy_from_slice(&argument.words());
+        }
+        Call { words, len: HEAD_WORDS + slots * VALUE_WORDS }
+    }
+
+    /// Its words, up to the last argument's.
+    #[inline]
+    pub fn words(&self) -> &[u64] {
+        &self.words[..self.len]
+    }
+
+    /// What the call gives.
+    pub fn fold(&self) -> Result<Answer, Refusal> {
+        let mut out = [0; ANSWER_WORDS];
+        fold_words(self.words(), &mut out)?;
+        let (first, second) = out.split_at(VALUE_WORDS);
+        Ok(Answer {
+            first: Value::of_words(first).expect("an answer's first value has a type"),
+            second: Value::of_words(second),
+        })
+    }
+}
+
+/// What a builtin gives for some arguments. A bitcast is [`Call::bitcast`].
+pub fn fold(builtin: Builtin, arguments: &[Value]) -> Result<Answer, Refusal> {
+    Call::new(builtin, arguments).fold()
+}
+
+#[cfg(test)]
+mod tests {
+    use super::*;
+
+    /// What words are refused by; memory lent to a refused call stays.
+    fn refused(words: &[u64], room: usize) -> Option<Refusal> {
+        let mut out = vec![7; room];
+        let refusal = fold_words(words, &mut out).err();
+        assert!(refusal.is_none() || out.iter().all(|&word| word == 7));
+        refusal
+    }
+
+    #[test]
+    fn broken_words_are_refused() {
+        let call = Call::new(Builtin::Max, &[Value::from([1, 2, 3]), Value::from([3, 2, 1])]);
+        let words = call.words();
+        assert_eq!(refused(words, 34), None);
+        assert_eq!(refused(&call.words, 40), None);
+        assert_eq!(refused(words, 33), Some(Refusal::NoRoom));
+        assert_eq!(refused(&[], 34), Some(Refusal::UnknownBuiltin));
+        for len in 0..words.len() {
+            let refusal = match len {
+                0 => Refusal::UnknownBuiltin,
+                1 => Refusal::ArgumentCount,
+                _ => Refusal::BadValue,
+            };
+            assert_eq!(refused(&words[..len], 34), Some(refusal), "{len} words");
+        }
+        let with = |place: usize, word: u64| {
+            let mut words = call.words;
+            words[place] = word;
+            refused(&words, 34)
+        };
+        for number in [0, 36, u64::MAX] {
+            assert_eq!(with(0, number), Some(Refusal::UnknownBuiltin));
+        }
+        for count in [0, 1, 3, u64::MAX] {
+            assert_eq!(with(1, count), Some(Refusal::ArgumentCount));
+        }
+        for ty in [0, 39, 1 << 32, u64::MAX] {
+            assert_eq!(with(3, ty), Some(Refusal::BadValue));
+        }
+        assert_eq!(with(4, 1 << 32), Some(Refusal::BadValue), "a lane too wide");
+        assert_eq!(with(7, 1), Some(Refusal::BadValue), "a lane that the type has not");
+        assert_eq!(with(2, u64::MAX), None, "a type that is not asked for");
+        assert_eq!(with(53, u64::MAX), None, "an argument that is not asked for");
+    }
+
+    #[test]
+    fn words_past_the_answer_stay() {
+        let call = Call::new(Builtin::Abs, &[Value::from(-5)]);
+        let mut out = [7; 40];
+        assert_eq!(fold_words(&call.words, &mut out), Ok(()));
+        assert_eq!(out[..2], [2, 5]);
+        assert!(out[2..34].iter().all(|&word| word == 0) && out[34..].iter().all(|&word| word == 7));
+    }
+
+    #[test]
+    fn a_bitcast_counts_its_type() {
+        let answer = Call::bitcast(Type::Scalar(crate::Scalar::U32), Value::from(1.0f32)).fold();
+        assert_eq!(answer, Ok(Answer { first: Value::from(0x3F80_0000u32), second: None }));
+        assert_eq!(fold(Builtin::Bitcast, &[Value::from(1.0f32)]), Err(Refusal::ArgumentCount));
+        assert_eq!(fold(Builtin::Bitcast, &[Value::from(1), Value::from(1)]), Err(Refusal::BadValue));
+    }
+}

@@ -1,0 +1,9 @@
+//! The library's functions, as crates/chanrelout exports them: a slice is a pointer and a length. Nothing holds these
+//! declarations to the library but the tests.
+
+extern "C" {
+    pub fn chanrelout_line(line: *const u8, line_len: usize, out: *mut u8, out_len: usize) -> u64;
+    pub fn chanrelout_call(call: *const u64, call_len: usize, out: *mut u64, out_len: usize) -> u8;
+    pub fn chanrelout_f32_to_f16(bits: u32) -> u16;
+    pub fn chanrelout_f16_to_f32(bits: u16) -> u32;
+}

@@ -1,0 +1,47 @@
+//! WGSL constant folding that nobody has to doubt: safe types over the static library of Chanrelout, whose functions
+//! are proved to meet their statements. What each builtin takes and gives is document 01 of that repository.
+//!
+//! ```
+//! use chanrelout::{fold, fold_line, Builtin, Refusal, Value};
+//!
+//! let colour = Value::from([1.0f32, 0.5, 0.0, -1.0]);
+//! let packed = fold(Builtin::Pack4x8unorm, &[colour])?.first;
+//! assert_eq!(packed, Value::from(0x0000_80FFu32));
+//! assert_eq!(packed.to_string(), "u32:000080FF");
+//!
+//! assert_eq!(fold(Builtin::Min, &[Value::from(1), Value::from(1.0f32)]), Err(Refusal::TypesDiffer));
+//! assert_eq!(fold_line(b"frexp\tf32:00000001")?, "f32:3F000000\ti32:FFFFFF6C");
+//! # Ok::<(), Refusal>(())
+//! ```
+//!
+//! Nothing here allocates but [`fold_line`] and what prints. All of it may be called from several threads at once.
+
+#![warn(missing_docs)]
+
+mod builtin;
+mod call;
+mod ffi;
+mod line;
+mod refusal;
+mod value;
+
+pub use builtin::Builtin;
+pub use call::{fold, fold_words, Answer, Call, ANSWER_WORDS, CALL_WORDS};
+pub use line::{fold_line, fold_line_into, LONGEST_ANSWER};
+pub use refusal::Refusal;
+pub use value::{BadValue, Scalar, Size, Type, Value, Width};
+
+/// The half nearest to an `f32`, both as bits: ties to the even one, infinity from halfway past the greatest half.
+/// A NaN gives 7E00.
+#[inline]
+pub fn f32_to_f16(bits: u32) -> u16 {
+    // SAFETY: numbers in, a number out.
+    unsafe { ffi::chanrelout_f32_to_f16(bits) }
+}
+
+/// The `f32` that a half is, both as bits. A NaN gives 7FC00000.
+#[inline]
+pub fn f16_to_f32(bits: u16) -> u32 {
+    // SAFETY: numbers in, a number out.
+    unsafe { ffi::chanrelout_f16_to_f32(bits) }
+}

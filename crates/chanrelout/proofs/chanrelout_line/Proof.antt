@@ -1,0 +1,30 @@
+-- What the fold ensures of its answer; no answer's length reaches 2^32. Assumes nothing.
+use mathlib.Core.Path.{ap, _∙_}
+use native.Mathlib.Omega.{arith}
+use lib.ListN.{length}
+use borrow.Author.Needs.{needs}
+use Rattle.lines.specs.declared.LineAnswer.{LineAnswer}
+use Rattle.lines.specs.Line.{lineAnswer}
+use Rattle.lines.proofs.Written.{written-most}
+use Rattle.chanrelout.specs.Words.{lineNumber}
+use Rattle.chanrelout.proofs.chanrelout_line.Statement.{statement}
+use Rattle.chanrelout.proofs.chanrelout_line.Tie as tie
+
+fold-line-requires : tie.Need-fold-line-requires
+fold-line-requires c κs = search needs
+
+line-number-requires : tie.Need-line-number-requires
+unfolding lineAnswer
+line-number-requires c κs =
+    let a = c .before .before .before .before .before .before .args in
+    omega (arith, written-most (length (a .out .now)) (a .line .now), ap (λ (x : LineAnswer). x .len) (c .before .before .fold-line .ensures .0))
+
+same-length : tie.Need-same-length
+same-length c = search needs
+
+returns : tie.Need-returns
+returns c = (c .line-number .ensures ∙ ap lineNumber (c .before .before .before .fold-line .ensures .0), c .before .before .before .fold-line .ensures .1)
+
+pub chanrelout-line-spec : {M : Type 1} → statement M
+chanrelout-line-spec =
+    tie.close (tie.spec fold-line-requires line-number-requires same-length returns)

@@ -1,0 +1,48 @@
+-- Bytes that spell digits, one more at a time, and the number that they spell: digits after others shift what those spell. By induction on the bytes. Assumes nothing.
+use Prim.Native.Nat.{ℕ, zero, suc, _+_, _*_, _<_, _≤_, _^_}
+use mathlib.Core.Bool.{Bool, _&&_, and-true, and-assoc}
+use mathlib.Core.List.{List, [], _∷_, _++_}
+use mathlib.Core.Path.{_≡_, refl, sym, _∙_}
+use native.Mathlib.Nat.{add-mul, mul-assoc, pow-succ'}
+use native.Mathlib.Omega.{arith}
+use lib.Dec.{ltb}
+use lib.ListN.{length, take, drop, getD, length-drop}
+use lib.Seq.{getD-drop, take-suc, take-add, drop-drop, length-take-le}
+use Rattle.values.specs.Value.{every}
+use Rattle.spelling.specs.Hex.{digitOf, digitsBelow, number}
+
+-- a test holds of the first n places and the next where it holds of the first n and of the next
+every-more : (q : ℕ → Bool) (s : List ℕ) (n : ℕ) → n < length s → every q (take (suc n) s) ≡ every q (take n s) && q (getD s n 0)
+every-more q [] n h = absurd (omega arith)
+every-more q (x ∷ xs) zero h = and-true (q x)
+every-more q (x ∷ xs) (suc n) h = rw (every-more q xs n (omega arith)) (sym (and-assoc (q x) (every q (take n xs)) (q (getD xs n 0))))
+
+-- a digit more, from i on
+pub digits-more : (b : ℕ) (s : List ℕ) (i n : ℕ) → i + n < length s
+    → digitsBelow b (take (suc n) (drop i s)) ≡ digitsBelow b (take n (drop i s)) && ltb (digitOf (getD s (i + n) 0)) b
+digits-more b s i n h = rw (← (getD-drop i s n 0)) (every-more (λ x. ltb (digitOf x) b) (drop i s) n (omega (arith, length-drop i s)))
+
+number-append : (v : ℕ) (xs ys : List ℕ) → number v (xs ++ ys) ≡ number (number v xs) ys
+unfolding number
+number-append v [] ys = refl
+number-append v (x ∷ xs) ys = number-append (v * 16 + digitOf x) xs ys
+
+-- a digit more, from i on
+pub number-more : (s : List ℕ) (i n : ℕ) → i + n < length s → number 0 (take (suc n) (drop i s)) ≡ number 0 (take n (drop i s)) * 16 + digitOf (getD s (i + n) 0)
+unfolding number
+number-more s i n h = rw (take-suc (drop i s) n 0 (omega (arith, length-drop i s)), number-append, getD-drop)
+
+-- what stands before, shifted
+pub number-after : (v : ℕ) (xs : List ℕ) → number v xs ≡ v * 16 ^ length xs + number 0 xs
+unfolding number
+number-after v [] = omega arith
+number-after v (x ∷ xs) =
+    let d = digitOf x in
+    number-after (v * 16 + d) xs ∙ rw (pow-succ', number-after (0 * 16 + d) xs, add-mul, mul-assoc) (omega arith)
+
+-- two parts of digits
+pub number-parts : (s : List ℕ) (i n m : ℕ) → i + n + m ≤ length s
+    → number 0 (take (n + m) (drop i s)) ≡ number 0 (take n (drop i s)) * 16 ^ m + number 0 (take m (drop (i + n) s))
+number-parts s i n m h =
+    let l : length (take m (drop (i + n) s)) ≡ m = length-take-le m (drop (i + n) s) (omega (arith, length-drop (i + n) s)) in
+    rw (take-add n m (drop i s), drop-drop n i s, number-append) (rw l at (number-after (number 0 (take n (drop i s))) (take m (drop (i + n) s))))
