@@ -54,14 +54,18 @@ fn report(what: &str, count: usize, (ours, theirs): (Duration, Duration)) {
 
 // ---- records: the calls that both sides answer
 
-/// So many that no branch is learnt by heart, and so few that they stay in the processor's cache.
-const CALLS: usize = 4096;
-const ROUNDS: usize = 64;
+/// So many that no branch is learnt by heart, and so few that their words, 440 bytes a call, stay in the processor's
+/// cache, as those of a caller do who has just written them.
+const FEW: usize = 1024;
+/// So many that the words come from memory.
+const MANY: usize = 65536;
+/// Calls in a turn.
+const TURN: usize = 4 * MANY;
 
 fn records(text: &[u8]) {
     let (mut ours, mut theirs) = (Vec::new(), Vec::new());
     for line in text.split(|&byte| byte == b'\n') {
-        if ours.len() == CALLS {
+        if ours.len() == MANY {
             break;
         }
         let (call, other) = match (call_of(line), rustlines::read_call(line)) {
@@ -73,24 +77,32 @@ fn records(text: &[u8]) {
             theirs.push(other);
         }
     }
+    for (what, most) in [("record calls", FEW), ("record calls, memory", MANY)] {
+        let count = ours.len().min(most);
+        let rounds = TURN / count;
+        report(what, rounds * count, folded(&ours[..count], &theirs[..count], rounds));
+    }
+}
+
+/// The same calls by both sides, so many times over.
+fn folded(ours: &[chanrelout::Call], theirs: &[rustlines::Call], rounds: usize) -> (Duration, Duration) {
     let mut out = [0; ANSWER_WORDS];
-    let times = in_turns(
+    in_turns(
         || {
             timed(|| {
-                for call in (0..ROUNDS).flat_map(|_| &ours) {
+                for call in (0..rounds).flat_map(|_| ours) {
                     black_box(fold_words(black_box(call.words()), &mut out)).expect("an answer");
                 }
             })
         },
         || {
             timed(|| {
-                for call in (0..ROUNDS).flat_map(|_| &theirs) {
+                for call in (0..rounds).flat_map(|_| theirs) {
                     drop(black_box(black_box(call).fold()));
                 }
             })
         },
-    );
-    report("record calls", ROUNDS * ours.len(), times);
+    )
 }
 
 /// The call of a line that is spelled rightly.
@@ -114,15 +126,18 @@ fn programs(text: &[u8], foldlines: &str, rustlines: &str, emulator: &[String]) 
     report("lines", count, times);
 }
 
-// ---- half conversions, neither side inlined
+// ---- half conversions: both sides' functions themselves, each called through a pointer
 
-#[inline(never)]
-fn crate_f32_to_f16(bits: u32) -> u16 {
+extern "C" {
+    fn chanrelout_f32_to_f16(bits: u32) -> u16;
+    fn chanrelout_f16_to_f32(bits: u16) -> u32;
+}
+
+extern "C" fn crate_f32_to_f16(bits: u32) -> u16 {
     halfcrate::f16::from_f32(f32::from_bits(bits)).to_bits()
 }
 
-#[inline(never)]
-fn crate_f16_to_f32(bits: u16) -> u32 {
+extern "C" fn crate_f16_to_f32(bits: u16) -> u32 {
     halfcrate::f16::from_bits(bits).to_f32().to_bits()
 }
 
@@ -138,18 +153,26 @@ fn halves() {
     let any: Vec<u32> = (0..COUNT).map(|_| random()).collect();
     // from 2^-25 to 2^17, where a conversion has to round
     let near: Vec<u32> = any.iter().map(|bits| bits & 0x807F_FFFF | (102 + bits % 43) << 23).collect();
-    fn over<A: Copy, B>(all: &[A], f: impl Fn(A) -> B) -> Duration {
-        timed(|| {
-            for &x in all {
-                black_box(f(black_box(x)));
-            }
-        })
-    }
     let short: Vec<u16> = any.iter().map(|&bits| bits as u16).collect();
-    let times = in_turns(|| over(&any, chanrelout::f32_to_f16), || over(&any, crate_f32_to_f16));
+    let times = converted(&any, chanrelout_f32_to_f16, crate_f32_to_f16);
     report("f32 to f16, any", COUNT, times);
-    let times = in_turns(|| over(&near, chanrelout::f32_to_f16), || over(&near, crate_f32_to_f16));
+    let times = converted(&near, chanrelout_f32_to_f16, crate_f32_to_f16);
     report("f32 to f16, in range", COUNT, times);
-    let times = in_turns(|| over(&short, chanrelout::f16_to_f32), || over(&short, crate_f16_to_f32));
+    let times = converted(&short, chanrelout_f16_to_f32, crate_f16_to_f32);
     report("f16 to f32", COUNT, times);
+}
+
+type Conversion<A, B> = unsafe extern "C" fn(A) -> B;
+
+fn converted<A: Copy, B>(all: &[A], ours: Conversion<A, B>, theirs: Conversion<A, B>) -> (Duration, Duration) {
+    in_turns(|| over(all, black_box(ours)), || over(all, black_box(theirs)))
+}
+
+fn over<A: Copy, B>(all: &[A], convert: Conversion<A, B>) -> Duration {
+    timed(|| {
+        for &x in all {
+            // SAFETY: numbers in, a number out.
+            black_box(unsafe { convert(black_box(x)) });
+        }
+    })
 }

@@ -16,8 +16,7 @@ use Rattle.norm.specs.Norm.{packedNorm, unpackedNorm, normalCode}
 use Rattle.norm.proofs.Lanes.{unpacks-as-normal}
 use Rattle.norm.proofs.Trip.{trip, unpacked-below}
 use Rattle.norm.proofs.Normal.{packed-below, packed-normal}
-use Rattle.builtins.specs.Pack.{lowByte, extended}
-use Rattle.builtins.specs.Fold.{plain}
+use Rattle.packing.specs.Lanes.{lowByte, extended, plain}
 use Rattle.builtins.specs.Formats.{Format, x8snorm, x8unorm, xI8, xU8, x16snorm, x16unorm, x16float, normalHalf}
 
 -- words of `count` lanes of `width` bits: the code of a lane, the lane of a code, the normal form of a code

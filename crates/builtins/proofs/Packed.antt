@@ -1,14 +1,11 @@
--- The word that the program makes of the first four lanes, cut to 32 bits, is the word of the lanes in use. The cut does not change the lane of a word, nor the cut to w bits a norm code. Assumes nothing.
-use Prim.Native.Nat.{ℕ, _%_, _^_, _≤_}
-use mathlib.Core.Bool.{Bool}
+-- The word that the program makes of the first four lanes, cut to 32 bits, is the word of the lanes in use. The cut does not change the lane of a word. Assumes nothing.
+use Prim.Native.Nat.{ℕ, _≤_}
 use mathlib.Core.List.{List, map}
 use mathlib.Core.Path.{_≡_, ap, sym, _∙_}
 use native.Mathlib.Nat.{mod-eq-of-lt}
 use native.Mathlib.Omega.{arith}
 use lib.ListN.{length, length-map, take}
 use lib.Seq.{take-at, length-take-le}
-use Rattle.norm.specs.Norm.{packedNorm}
-use Rattle.norm.proofs.Normal.{packed-below}
 use Rattle.values.specs.declared.Scalar.{Scalar}
 use Rattle.values.specs.declared.Scalar.the-variants.{U32}
 use Rattle.values.specs.declared.Size.{Size}
@@ -54,6 +51,3 @@ module _ (n : Size) (s : Scalar) (w : ℕ) (f : ℕ → ℕ) (v : Value) (l : le
 
 pub uncut : (v : Value) → Passed (Only (One U32)) v → low (lane v 0) ≡ lane v 0
 uncut v p = mod-eq-of-lt (lane-narrow v (p .formed) 0)
-
-pub norm-code : (g : Bool) (w x y : ℕ) → 1 ≤ w → w ≤ 16 → y ≡ packedNorm g w x → y % 2 ^ w ≡ packedNorm g w x
-norm-code g w x y lo hi e = ap (λ (z : ℕ). z % 2 ^ w) e ∙ mod-eq-of-lt (packed-below g w x lo hi)

@@ -17,9 +17,10 @@ use Rattle.builtins.specs.Logical.{allOf, anyOf, selectOf}
 use Rattle.numeric.specs.Numeric.{absLane, signLane, leadingLane, onesLane, trailingLane, minLane, maxLane, clampLane, saturateLane, stepLane}
 use Rattle.builtins.specs.Numeric.{crossOf, dotOf, transposeOf}
 use Rattle.exponent.specs.Exponent.{ldexpLane}
+use Rattle.packing.specs.Lanes.{lowByte, extended, plain}
 use Rattle.builtins.specs.Exponent.{fractionOf, exponentOf}
 use Rattle.builtins.specs.Bitcast.{bitcastOf}
-use Rattle.builtins.specs.Pack.{lowByte, extended, filled, word, packed, unpacked, packedNorms, unpackedNorms}
+use Rattle.builtins.specs.Pack.{filled, word, packed, unpacked, packedNorms, unpackedNorms}
 
 -- "Each refusal returns its number and the empty value"
 unfoldable pub refused : ℕ → Answer
@@ -31,10 +32,6 @@ answered v = record { refusal = 0; first = v; second = emptyValue }
 
 unfoldable pub answeredTwice : Value → Value → Answer
 answeredTwice v w = record { refusal = 0; first = v; second = w }
-
--- a code as its lane
-abbrev pub plain : ℕ → ℕ
-plain c = c
 
 -- a call that is not refused
 abbrev pub answerBy : Builtin → Kind → Value → Value → Value → Answer

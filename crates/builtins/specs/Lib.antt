@@ -7,4 +7,3 @@ pub mod Halves
 pub mod Pack
 pub mod Fold
 pub mod Formats
-pub mod Codings

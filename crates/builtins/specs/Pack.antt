@@ -1,9 +1,8 @@
--- Packing and unpacking words: 01, "Lane i of a packed word stands at bit 8i or 16i" and the integer lanes. The norm lanes are norm's, the half lanes half's. Definitions only.
-use Prim.Native.Nat.{ℕ, _+_, _*_, _%_, _^_}
-use mathlib.Core.Bool.{Bool, cond}
+-- Packing and unpacking words: 01, "Lane i of a packed word stands at bit 8i or 16i". The integer lanes are packing's, the norm lanes norm's, the half lanes half's. Definitions only.
+use Prim.Native.Nat.{ℕ}
+use mathlib.Core.Bool.{Bool}
 use mathlib.Core.List.{[], _∷_, map}
 use lib.Bits.{bitOr}
-use lib.Dec.{ltb}
 use Rattle.values.specs.declared.Scalar.the-variants.{U32}
 use Rattle.values.specs.declared.Kind.{Kind}
 use Rattle.values.specs.declared.Kind.the-variants.{One}
@@ -11,20 +10,11 @@ use Rattle.values.specs.declared.Value.{Value}
 use Rattle.values.specs.Value.{lanesOf, lane, value}
 use Rattle.numeric.specs.Parts.{parts, joined}
 use Rattle.norm.specs.Norm.{packedNorm, unpackedNorm}
-
--- ---- integer lanes
-
--- "pack4xI8 and pack4xU8 keep the low 8 bits of each lane. pack4xU8Clamp also keeps the low 8 bits."
-abbrev pub lowByte : ℕ → ℕ
-lowByte x = x % 2 ^ 8
-
--- a code of 8 bits taken as signed, its sign extended to 32 bits
-abbrev pub extended : ℕ → ℕ
-extended c = cond (ltb c 0x80) c (0xffff_ff00 + c)
+use Rattle.packing.specs.Lanes.{fillingFrom}
 
 -- "pack4xI8Clamp takes the low 8 bits as signed, extends the sign to 32 bits, shifts to the lane and joins by or, so that a negative lane fills every lane above it."
 abbrev pub filling : Value → ℕ → ℕ
-filling v i = extended (lowByte (lane v i)) * 2 ^ (8 * i) % 2 ^ 32
+filling v i = fillingFrom (lane v i) i
 
 unfoldable pub filled : Value → ℕ
 filled v = bitOr (bitOr (bitOr (filling v 0) (filling v 1)) (filling v 2)) (filling v 3)

@@ -1,5 +1,6 @@
 // What a call gives. What it means is in specs/: `foldOf` gives the answer of every call.
 mod bitcast;
+pub mod lanes;
 mod logical;
 mod matrix;
 mod numbers;
@@ -10,8 +11,8 @@ mod vectors;
 
 use calls::Builtin;
 use calls::Call;
-use pack::Coding8;
-use pack::Coding16;
+use packing::Coding8;
+use packing::Coding16;
 use values::Kind;
 use values::Value;
 ghost use mathlib.Core.Path.{_≡_};

@@ -12,7 +12,7 @@ ghost use Prim.Native.Nat.{_≤_};
 ghost use lib.Dec.{eqb};
 ghost use lib.ListN.{take};
 ghost use Rattle.values.specs.Value.{value, every, wellFormed, lanewise3};
-ghost use Rattle.values.specs.Four.{four3, isLanes};
+ghost use Rattle.values.specs.Four.{isLanes};
 ghost use Rattle.calls.specs.Passed.{Passed3};
 ghost use Rattle.builtins.specs.Logical.{flag, allOf, anyOf, selectLane, selectOf};
 ghost use Rattle.builtins.specs.Fold.{answered};
@@ -69,23 +69,6 @@ fn either(f: Value, t: Value, x: u64) -> Value
     if x == 0 { f } else { t }
 }
 
-fn select_lane(f: u32, t: u32, c: u32) -> u32
-    ensures { λ r. ⌜ r ≡ selectLane f t c ⌝ }
-{
-    if c == 0 { f } else { t }
-}
-
-fn select_four(f: [u32; 4], t: [u32; 4], c: [u32; 4]) -> [u32; 4]
-    ensures { λ r. ⌜ r ≡ four3 selectLane f t c ⌝ }
-{
-    [
-        select_lane(f[0], t[0], c[0]),
-        select_lane(f[1], t[1], c[1]),
-        select_lane(f[2], t[2], c[2]),
-        select_lane(f[3], t[3], c[3]),
-    ]
-}
-
 fn select_lanes(f: Value, t: Value, c: Value) -> Value
     requires { ⌜ (isLanes (f .kind) ≡ true) × ((wellFormed f ≡ true) × ((wellFormed t ≡ true) × (wellFormed c ≡ true))) ⌝ }
     ensures { λ r. ⌜ r ≡ lanewise3 selectLane f t c ⌝ }
@@ -96,7 +79,7 @@ fn select_lanes(f: Value, t: Value, c: Value) -> Value
     let z = c.lanes;
     values::of_lanes(
         k,
-        select_four(values::cut(x), values::cut(y), values::cut(z)),
+        crate::lanes::select_four(values::cut(x), values::cut(y), values::cut(z)),
     )
 }
 

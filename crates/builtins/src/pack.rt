@@ -1,121 +1,17 @@
-// Packing and unpacking words. A format is the width of its lanes, 8 or 16, and a coding: how a lane becomes a code of that width, and a code a lane.
+// Packing and unpacking words: the words and the lanes are packing's, by the codings of their formats.
 use crate::Answer;
 use calls::Taken;
+use packing::Coding8;
+use packing::Coding16;
 use values::Kind;
 use values::Scalar;
 use values::Size;
 use values::Value;
 ghost use mathlib.Core.Path.{_≡_};
-ghost use mathlib.Core.List.{[], _∷_, _++_, map};
-ghost use Prim.Native.Nat.{_%_, _^_, _<_};
-ghost use lib.ListN.{take, getD};
-ghost use lib.Bits.{bitOr};
-ghost use Rattle.values.specs.Four.{four};
-ghost use Rattle.numeric.specs.Parts.{parts, joined};
+ghost use Rattle.packing.specs.Codings.{scalar8Of, code8Of, lane8Of, code16Of, lane16Of};
 ghost use Rattle.calls.specs.Passed.{Passed};
-ghost use Rattle.builtins.specs.Pack.{extended, filled, word, packed, unpacked};
-ghost use Rattle.builtins.specs.Codings.{scalar8Of, code8Of, lane8Of, code16Of, lane16Of, fillingFrom};
+ghost use Rattle.builtins.specs.Pack.{filled, word, packed, unpacked};
 ghost use Rattle.builtins.specs.Fold.{answered};
-
-pub enum Coding8 {
-    Snorm,
-    Unorm,
-    Signed,
-    Unsigned,
-}
-
-pub enum Coding16 {
-    Snorm,
-    Unorm,
-    Float,
-}
-
-// ---- codes
-
-fn low8(x: u32) -> u8
-    ensures { λ r. ⌜ r ≡ x % 2 ^ 8 ⌝ }
-{
-    (x % 0x100) as u8
-}
-
-fn low16(x: u32) -> u16
-    ensures { λ r. ⌜ r ≡ x % 2 ^ 16 ⌝ }
-{
-    (x % 0x1_0000) as u16
-}
-
-fn code8(t: Coding8, x: u32) -> u8
-    ensures { λ r. ⌜ r ≡ code8Of t x ⌝ }
-{
-    match t {
-        Coding8::Snorm => low8(norm::pack_snorm8(x)),
-        Coding8::Unorm => low8(norm::pack_unorm8(x)),
-        Coding8::Signed => low8(x),
-        Coding8::Unsigned => low8(x),
-    }
-}
-
-fn code16(t: Coding16, x: u32) -> u16
-    ensures { λ r. ⌜ r ≡ code16Of t x ⌝ }
-{
-    match t {
-        Coding16::Snorm => low16(norm::pack_snorm16(x)),
-        Coding16::Unorm => low16(norm::pack_unorm16(x)),
-        Coding16::Float => half::f32_to_f16(x),
-    }
-}
-
-// ---- lanes
-
-fn extend(c: u8) -> u32
-    ensures { λ r. ⌜ r ≡ extended c ⌝ }
-{
-    if c < 0x80 {
-        c as u32
-    } else {
-        0xffff_ff00 + c as u32
-    }
-}
-
-fn same(c: u8) -> u32
-    ensures { λ r. ⌜ r ≡ c ⌝ }
-{
-    c as u32
-}
-
-fn lane8(t: Coding8, c: u8) -> u32
-    ensures { λ r. ⌜ r ≡ lane8Of t c ⌝ }
-{
-    match t {
-        Coding8::Snorm => norm::unpack_snorm8(c),
-        Coding8::Unorm => norm::unpack_unorm8(c),
-        Coding8::Signed => extend(c),
-        Coding8::Unsigned => same(c),
-    }
-}
-
-fn lane16(t: Coding16, c: u16) -> u32
-    ensures { λ r. ⌜ r ≡ lane16Of t c ⌝ }
-{
-    match t {
-        Coding16::Snorm => norm::unpack_snorm16(c),
-        Coding16::Unorm => norm::unpack_unorm16(c),
-        Coding16::Float => half::f16_to_f32(c),
-    }
-}
-
-fn scalar8(t: Coding8) -> Scalar
-    ensures { λ r. ⌜ r ≡ scalar8Of t ⌝ }
-{
-    match t {
-        Coding8::Snorm => Scalar::F32,
-        Coding8::Unorm => Scalar::F32,
-        Coding8::Signed => Scalar::I32,
-        Coding8::Unsigned => Scalar::U32,
-    }
-}
-
-// ---- words
 
 fn answered_word(x: u32) -> Answer
     ensures { λ r. ⌜ r ≡ answered (word x) ⌝ }
@@ -123,41 +19,12 @@ fn answered_word(x: u32) -> Answer
     crate::answered_lanes(Kind::One(Scalar::U32), [x, 0, 0, 0])
 }
 
-fn join8(a: u8, b: u8, c: u8, d: u8) -> u32
-    ensures { λ r. ⌜ r ≡ joined 8 (a ∷ b ∷ c ∷ d ∷ []) ⌝ }
-{
-    a as u32 + 0x100 * (b as u32 + 0x100 * (c as u32 + 0x100 * d as u32))
-}
-
-fn join16(a: u16, b: u16) -> u32
-    ensures { λ r. ⌜ r ≡ joined 16 (a ∷ b ∷ []) ⌝ }
-{
-    a as u32 + 0x1_0000 * b as u32
-}
-
-fn word8(t: Coding8, x: [u32; 4]) -> u32
-    ensures { λ r. ⌜ r ≡ joined 8 (four (code8Of t) x) ⌝ }
-{
-    join8(
-        code8(t, x[0]),
-        code8(t, x[1]),
-        code8(t, x[2]),
-        code8(t, x[3]),
-    )
-}
-
-fn word16(t: Coding16, x: [u32; 4]) -> u32
-    ensures { λ r. ⌜ r ≡ joined 16 (take 2 (four (code16Of t) x)) ⌝ }
-{
-    join16(code16(t, x[0]), code16(t, x[1]))
-}
-
 pub fn pack8(t: Coding8, v: Value) -> Answer
     requires { ⌜ Passed (Taken.Only (Kind.Vec Size.Four (scalar8Of t))) v ⌝ }
     ensures { λ r. ⌜ r ≡ answered (packed 8 (code8Of t) v) ⌝ }
 {
     let l = v.lanes;
-    answered_word(word8(t, values::cut(l)))
+    answered_word(packing::word8(t, values::cut(l)))
 }
 
 pub fn pack16(t: Coding16, v: Value) -> Answer
@@ -165,25 +32,7 @@ pub fn pack16(t: Coding16, v: Value) -> Answer
     ensures { λ r. ⌜ r ≡ answered (packed 16 (code16Of t) v) ⌝ }
 {
     let l = v.lanes;
-    answered_word(word16(t, values::cut(l)))
-}
-
-fn lanes8(t: Coding8, x: u32) -> [u32; 4]
-    ensures { λ r. ⌜ r ≡ map (lane8Of t) (parts 8 4 x) ⌝ }
-{
-    [
-        lane8(t, low8(x)),
-        lane8(t, low8(x / 0x100)),
-        lane8(t, low8(x / 0x100 / 0x100)),
-        lane8(t, low8(x / 0x100 / 0x100 / 0x100)),
-    ]
-}
-
-// Two lanes of the four.
-fn lanes16(t: Coding16, x: u32) -> [u32; 4]
-    ensures { λ r. ⌜ r ≡ map (lane16Of t) (parts 16 2 x) ++ 0 ∷ 0 ∷ [] ⌝ }
-{
-    [lane16(t, low16(x)), lane16(t, low16(x / 0x1_0000)), 0, 0]
+    answered_word(packing::word16(t, values::cut(l)))
 }
 
 pub fn unpack8(t: Coding8, v: Value) -> Answer
@@ -192,7 +41,10 @@ pub fn unpack8(t: Coding8, v: Value) -> Answer
 {
     let l = v.lanes;
     let x = values::cut(l);
-    crate::answered_lanes(Kind::Vec(Size::Four, scalar8(t)), lanes8(t, x[0]))
+    crate::answered_lanes(
+        Kind::Vec(Size::Four, packing::scalar8(t)),
+        packing::lanes8(t, x[0]),
+    )
 }
 
 pub fn unpack16(t: Coding16, v: Value) -> Answer
@@ -201,28 +53,13 @@ pub fn unpack16(t: Coding16, v: Value) -> Answer
 {
     let l = v.lanes;
     let x = values::cut(l);
-    crate::answered_lanes(Kind::Vec(Size::Two, Scalar::F32), lanes16(t, x[0]))
+    crate::answered_lanes(Kind::Vec(Size::Two, Scalar::F32), packing::lanes16(t, x[0]))
 }
 
-// ---- pack4xI8Clamp
-
-// The lane at its place, its sign in every place above.
-fn fill_from(x: u32, i: u32) -> u32
-    requires { ⌜ i < 4 ⌝ }
-    ensures { λ r. ⌜ r ≡ fillingFrom x i ⌝ }
-{
-    extend(low8(x)) << (8 * i)
-}
-
-fn fill_word(x: [u32; 4]) -> u32
-    ensures { λ r. ⌜ r ≡ bitOr (bitOr (bitOr (fillingFrom (getD x 0 0) 0) (fillingFrom (getD x 1 0) 1)) (fillingFrom (getD x 2 0) 2)) (fillingFrom (getD x 3 0) 3) ⌝ }
-{
-    fill_from(x[0], 0) | fill_from(x[1], 1) | fill_from(x[2], 2) | fill_from(x[3], 3)
-}
-
+// pack4xI8Clamp.
 pub fn fill(v: Value) -> Answer
     ensures { λ r. ⌜ r ≡ answered (word (filled v)) ⌝ }
 {
     let l = v.lanes;
-    answered_word(fill_word(values::cut(l)))
+    answered_word(packing::fill_word(values::cut(l)))
 }

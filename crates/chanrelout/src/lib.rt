@@ -1,13 +1,14 @@
 // What a C or Rust program links: `rt staticlib chanrelout` writes target/staticlib/libchanrelout.a. Numbers pass as themselves, a slice as a
 // pointer and a length. bindings/ has the C header and the Rust crate.
-mod words;
+mod number;
 
 ghost use mathlib.Core.Path.{_≡_};
 ghost use lib.ListN.{length};
 ghost use Rattle.half.specs.Convert.{halfOf, singleOf};
 ghost use Rattle.spelling.specs.Write.{put};
 ghost use Rattle.lines.specs.Line as text;
-ghost use Rattle.chanrelout.specs.Words.{lineNumber, refusalIn, writtenIn};
+ghost use Rattle.words.specs.Words.{refusalIn, writtenIn};
+ghost use Rattle.chanrelout.specs.Number.{lineNumber};
 
 // Folds a line of 01 into its answer, without newlines. Answers the refusal's number times 2^32, or the length of what was written.
 #[no_mangle]
@@ -16,7 +17,7 @@ pub extern "C" fn chanrelout_line(line: &[u8], out: &mut [u8]) -> u64
         × (now (out .exit) ≡ put (now (out .entry)) 0 (text.writtenIn (length (now (out .entry))) (now (line .entry)))) ⌝ }
 {
     let a = lines::fold_line(line, out);
-    words::line_number(a)
+    number::line_number(a)
 }
 
 // Folds a call of words into the words of its answer. Answers the refusal's number, 0 where there is none.
@@ -25,16 +26,7 @@ pub extern "C" fn chanrelout_call(call: &[u64], out: &mut [u64]) -> u8
     ensures { λ r. ⌜ (r ≡ refusalIn (length (now (out .entry))) (now (call .entry)))
         × (now (out .exit) ≡ put (now (out .entry)) 0 (writtenIn (length (now (out .entry))) (now (call .entry)))) ⌝ }
 {
-    let a = builtins::fold(words::call_of(call));
-    if a.refusal != 0 {
-        return a.refusal;
-    }
-    if out.len() < 34 {
-        return 8;
-    }
-    words::put_value(out, 0, a.first);
-    words::put_value(out, 17, a.second);
-    0
+    words::fold(call, out)
 }
 
 // The half nearest to an f32, both as bits.

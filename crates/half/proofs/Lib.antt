@@ -1,3 +1,4 @@
+pub mod Ranges
 pub mod Closest
 pub mod Sizes
 pub mod Rounding

@@ -1,6 +1,6 @@
 -- From a half to an f32: exact for every half, and undone by the way back. What holds of any format that has all the numbers of another,
 -- once it is computed that an f32 has those of a half. Assumes nothing.
-use mathlib.Core.Path.{_≡_, ap, _∙_}
+use mathlib.Core.Path.{_≡_, sym, ap, _∙_}
 use Prim.Native.Nat.{ℕ, _*_, _^_, _<_}
 use native.Mathlib.Nat.{le-of-eq, lt-of-le-of-lt}
 use native.Mathlib.Omega.{arith}
@@ -8,7 +8,8 @@ use mathlib.Core.Bool.{true, false}
 use borrow.Author.Tests.{le-ltb}
 use lib.Dec.{lit<, lit≤}
 use Rattle.half.specs.Format.{f16, f32, infinity, magnitude, negative, isNan, fields, units}
-use Rattle.half.specs.Convert.{halfOf, singleOf}
+use Rattle.half.specs.Convert.{convertedMagnitude, halfOf, singleOf}
+use Rattle.half.proofs.Sizes.{units-inj}
 use Rattle.half.proofs.Conversion.{Widens, widened, sign-kept, magnitude-is, infinity-kept, nan-is, converted-bounded, number-back, nan-back}
 
 pub widens : Widens f16 f32
@@ -28,6 +29,9 @@ pub single-infinity : (h : ℕ) → magnitude f16 h ≡ infinity f16 → magnitu
 single-infinity h e = infinity-kept f16 f32 h e
 
 -- a half's unit is 2 ^ 125 of an f32's
+pub of-size : (m r : ℕ) → m < 0x7c00 → units f32 r ≡ units f16 m * 2 ^ 125 → r ≡ convertedMagnitude f16 f32 m
+of-size m r h e = units-inj f32 r (convertedMagnitude f16 f32 m) (e ∙ sym (widened f16 f32 widens m h .1))
+
 pub single-exact : (h : ℕ) → magnitude f16 h < infinity f16 → (magnitude f32 (singleOf h) < infinity f32) × (units f32 (magnitude f32 (singleOf h)) ≡ units f16 (magnitude f16 h) * 2 ^ 125)
 single-exact h l =
     let m = magnitude f16 h in

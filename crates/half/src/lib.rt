@@ -1,6 +1,8 @@
 // From an f32's bit pattern to a half's and back, by integers alone.
 ghost use mathlib.Core.Path.{_≡_};
-ghost use Prim.Native.Nat.{_≤_, _<_};
+ghost use mathlib.Core.Bool.{cond};
+ghost use Prim.Native.Nat.{_+_, _-_, _/_, _%_, _≤_, _<_};
+ghost use lib.Dec.{ltb};
 ghost use lib.Ieee.Nearest.{closest};
 ghost use Rattle.half.specs.Format.{f16, f32};
 ghost use Rattle.half.specs.Convert.{convertedMagnitude, halfOf, singleOf};
@@ -14,20 +16,40 @@ pub fn nearest_div(t: u32, d: u32) -> u32
     if d < t % d * 2 + q % 2 { q + 1 } else { q }
 }
 
-// From 2^16 up the infinity. From 2^-14 up the exponent's field moves by 112 and the last 13 digits are rounded off, a carry going
-// into the field. Below that, down to 2^-25, the digits are rounded to units of 2^-24, and under it all are 0.
+// What is rounded to a half: below 2^-14 the digits with the leading one; from there up the magnitude, its exponent's field moved by 112, so that a
+// carry goes into the field.
+fn digits_of(m: u32) -> u32
+    ensures { λ r. ⌜ r ≡ cond (ltb m 0x3880_0000) (m % 0x80_0000 + 0x80_0000) (m - 0x3800_0000) ⌝ }
+{
+    if m < 0x3880_0000 {
+        m % 0x80_0000 + 0x80_0000
+    } else {
+        m - 0x3800_0000
+    }
+}
+
+// How many places of it are rounded off: below 2^-14 as many as leave units of 2^-24, from there up 13.
+fn places_off(m: u32) -> u32
+    ensures { λ r. ⌜ r ≡ cond (ltb m 0x3880_0000) (126 - m / 0x80_0000) 13 ⌝ }
+{
+    if m < 0x3880_0000 {
+        126 - m / 0x80_0000
+    } else {
+        13
+    }
+}
+
+// Under 2^-25 it is 0, from 2^16 up the infinity.
 fn half_magnitude(m: u32) -> u32
     ensures { λ r. ⌜ r ≡ convertedMagnitude f32 f16 m ⌝ }
 {
-    if m >= 0x4780_0000 {
-        0x7c00
-    } else if m >= 0x3880_0000 {
-        nearest_div(m - 0x3800_0000, 8192)
-    } else if m >= 0x3300_0000 {
-        nearest_div(m % 0x80_0000 + 0x80_0000, 1u32 << (126 - m / 0x80_0000))
-    } else {
-        0
+    if (m < 0x3300_0000) | (0x4780_0000 <= m) {
+        if m < 0x3300_0000 {
+            return 0;
+        }
+        return 0x7c00;
     }
+    nearest_div(digits_of(m), 1u32 << places_off(m))
 }
 
 // The sign stands in front of the half's magnitude. Every NaN is 7E00.
@@ -41,14 +63,20 @@ pub fn f32_to_f16(n: u32) -> u16
     (n / 0x8000_0000 * 0x8000 + half_magnitude(m)) as u16
 }
 
-// Exact. A normal half's digits move up by 13 and its exponent's field by 112. A subnormal's first digit becomes the leading one.
-fn single_magnitude(m: u32) -> u32
+// Exact. A normal half's digits move up by 13 and its exponent's field by 112.
+fn normal_magnitude(m: u32) -> u32
+    requires { ⌜ (1024 ≤ m) × (m < 0x7c00) ⌝ }
+    ensures { λ r. ⌜ r ≡ convertedMagnitude f16 f32 m ⌝ }
+{
+    m * 8192 + 0x3800_0000
+}
+
+// The infinity, 0 and the subnormals: a subnormal's first digit becomes the leading one.
+fn rare_magnitude(m: u32) -> u32
+    requires { ⌜ (1024 ≤ m → 0x7c00 ≤ m) ⌝ }
     ensures { λ r. ⌜ r ≡ convertedMagnitude f16 f32 m ⌝ }
 {
     if m >= 1024 {
-        if m < 0x7c00 {
-            return m * 8192 + 0x3800_0000;
-        }
         return 0x7f80_0000;
     }
     if m == 0 {
@@ -63,8 +91,12 @@ pub fn f16_to_f32(h: u16) -> u32
     ensures { λ r. ⌜ r ≡ singleOf h ⌝ }
 {
     let m = (h % 0x8000) as u32;
+    let sign = (h / 0x8000) as u32 * 0x8000_0000;
+    if (1024 <= m) & (m < 0x7c00) {
+        return sign + normal_magnitude(m);
+    }
     if m > 0x7c00 {
         return 0x7fc0_0000;
     }
-    (h / 0x8000) as u32 * 0x8000_0000 + single_magnitude(m)
+    sign + rare_magnitude(m)
 }

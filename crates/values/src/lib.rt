@@ -266,7 +266,7 @@ pub fn kind_at(n: u64) -> Kind
 // ---- the value check
 
 // The first number that a lane of this scalar cannot be.
-fn lane_bound(s: Scalar) -> u64
+pub fn lane_bound(s: Scalar) -> u64
     ensures { λ r. ⌜ r ≡ 2 ^ laneBits s ⌝ }
 {
     match s {
@@ -278,7 +278,7 @@ fn lane_bound(s: Scalar) -> u64
     }
 }
 
-fn limit_at(i: usize, n: usize, bound: u64) -> u64
+pub fn limit_at(i: usize, n: usize, bound: u64) -> u64
     ensures { λ r. ⌜ r ≡ cond (ltb i n) bound 1 ⌝ }
 {
     if i < n { bound } else { 1 }
@@ -317,7 +317,7 @@ pub fn empty() -> Value
 
 // ---- the lanes of a scalar or a vector
 
-fn cut_lane(x: u64) -> u32
+pub fn cut_lane(x: u64) -> u32
     ensures { λ r. ⌜ r ≡ low x ⌝ }
 {
     (x % 0x1_0000_0000) as u32
@@ -335,7 +335,7 @@ pub fn cut(lanes: [u64; 16]) -> [u32; 4]
     ]
 }
 
-fn kept_lane(i: usize, n: usize, x: u32) -> u64
+pub fn kept_lane(i: usize, n: usize, x: u32) -> u64
     ensures { λ r. ⌜ r ≡ cond (ltb i n) x 0 ⌝ }
 {
     if i < n { x as u64 } else { 0 }

@@ -6,7 +6,7 @@ use borrow.Author.Needs.{needs}
 use Rattle.lines.specs.declared.LineAnswer.{LineAnswer}
 use Rattle.lines.specs.Line.{lineAnswer}
 use Rattle.lines.proofs.Written.{written-most}
-use Rattle.chanrelout.specs.Words.{lineNumber}
+use Rattle.chanrelout.specs.Number.{lineNumber}
 use Rattle.chanrelout.proofs.chanrelout_line.Statement.{statement}
 use Rattle.chanrelout.proofs.chanrelout_line.Tie as tie
 

@@ -1,16 +1,19 @@
 -- `half::half_magnitude` meets its contract. From 2 ^ -14 up 13 of the 24 digits are dropped, below it as many as leave units of 2 ^ -24, and
 -- under 2 ^ -25 the fraction of a unit is less than a half. Assumes nothing.
 use borrow.Author.Needs.{needs}
-use mathlib.Core.Path.{_≡_, sym, ap, _∙_, subst}
+use mathlib.Core.Path.{_≡_, refl, sym, ap, _∙_, subst}
+use mathlib.Core.Bool.{Bool, true, false, cond}
 use mathlib.Core.Logic.{inl, inr}
 use native.Mathlib.Omega.{arith}
 use Prim.Native.Nat.{ℕ, _+_, _-_, _*_, _/_, _%_, _^_, _≤_, _<_, min}
 use native.Mathlib.Nat.{le-trans, lt-of-lt-of-le, mul-assoc, one-mul, mul-le-mul-left, min-eq-left, min-eq-right, mul-lt-mul-of-pos-right}
-use lib.Dec.{lit≤}
+use borrow.Author.Tests.{ltb-true, ltb-false}
+use lib.Dec.{lit≤, ltb}
 use lib.Pow.{pow-pos, pow-mono, pow-add, shl-exact}
 use lib.Ieee.Nearest.{closest}
 use Rattle.half.specs.Format.{f16, f32, fields, units, pattern, rounded, magnitudeOf}
 use Rattle.half.specs.Convert.{convertedMagnitude}
+use Rattle.half.proofs.Ranges.{beside, not-beside}
 use Rattle.half.proofs.Closest.{split, closest-range, closest-add}
 use Rattle.half.proofs.Sizes.{pattern-up-to, pattern-small, units-full, units-lt}
 use Rattle.half.proofs.Rounding.{rounded-drop, rounded-keep, rounded-none}
@@ -102,64 +105,72 @@ module _ (m : ℕ) where
       ∙ ap (λ (u : ℕ). min (pattern f16 u) 0x7c00) (rounded-none f16 (units f32 m * 2 ^ 24) (2 ^ 149) (lt-of-lt-of-le (mul-lt-mul-of-pos-right (mul-lt-mul-of-pos-right (units-lt f32 m 0x3300_0000 h) (pow-pos 24)) (omega arith)) (lit≤ tt)))
       ∙ ap (λ (x : ℕ). min x 0x7c00) (pattern-small f16 0 (omega arith)))
 
--- 1 << s
-module _ (m : ℕ) (h : 0x3300_0000 ≤ m) where
-  shifted : (1 * 2 ^ (126 - m / 0x80_0000)) % 2 ^ 32 ≡ 2 ^ (126 - m / 0x80_0000)
-  shifted = shl-exact 1 (126 - m / 0x80_0000) 32 (omega arith) (omega arith) ∙ one-mul (2 ^ (126 - m / 0x80_0000))
+-- ---- what is rounded off: s places
+abbrev places : ℕ → ℕ
+places m = cond (ltb m 0x3880_0000) (126 - m / 0x80_0000) 13
 
-  shifted-most : 2 ^ (126 - m / 0x80_0000) ≤ 0x0100_0000
-  shifted-most = le-trans (pow-mono {i = 126 - m / 0x80_0000} {j = 24} (omega arith)) (lit≤ tt)
+abbrev rounded-digits : ℕ → ℕ
+rounded-digits m = cond (ltb m 0x3880_0000) (digits m) (m - 0x3800_0000)
 
-sub-nearest-div : tie.Need-sub-nearest-div
-sub-nearest-div c = search needs
+module _ (m : ℕ) (h : 0x3300_0000 ≤ m) (k : m < 0x4780_0000) where
+  most : places m ≤ 24
+  most = go (ltb m 0x3880_0000)
+    where
+      go : (b : Bool) → cond b (126 - m / 0x80_0000) 13 ≤ 24
+      go true = omega arith
+      go false = lit≤ tt
 
-nearest-div-requires : tie.Need-nearest-div-requires
-nearest-div-requires c κs = search needs
+  few : rounded-digits m < 0x8000_0000
+  few = go (ltb m 0x3880_0000)
+    where
+      go : (b : Bool) → cond b (digits m) (m - 0x3800_0000) < 0x8000_0000
+      go true = omega arith
+      go false = omega arith
 
-add-nearest-div : tie.Need-add-nearest-div
-add-nearest-div c = search needs
+  -- 1 << s
+  shifted : (1 * 2 ^ places m) % 2 ^ 32 ≡ 2 ^ places m
+  shifted = shl-exact 1 (places m) 32 (omega (arith, most)) (omega (arith, most)) ∙ one-mul (2 ^ places m)
 
-sub-nearest-div-2 : tie.Need-sub-nearest-div-2
-sub-nearest-div-2 c = search needs
+  shifted-most : 2 ^ places m ≤ 0x0100_0000
+  shifted-most = le-trans (pow-mono {i = places m} {j = 24} most) (lit≤ tt)
 
-shl-nearest-div : tie.Need-shl-nearest-div
-shl-nearest-div c = search needs
-
-nearest-div-requires-2 : tie.Need-nearest-div-requires-2
-nearest-div-requires-2 c κs =
-    let m = c .before .before .before .args .m in
-    let h : 0x3300_0000 ≤ m = omega arith in (
-      omega arith,
-      subst (λ (d : ℕ). 0 < d) (sym (shifted m h)) (pow-pos (126 - m / 0x80_0000)),
-      subst (λ (d : ℕ). d ≤ 0x0100_0000) (sym (shifted m h)) (shifted-most m h),
-    )
+  near : closest (rounded-digits m) (2 ^ places m) ≡ convertedMagnitude f32 f16 m
+  near = go (ltb m 0x3880_0000) refl
+    where
+      go : (b : Bool) → ltb m 0x3880_0000 ≡ b → closest (cond b (digits m) (m - 0x3800_0000)) (2 ^ cond b (126 - m / 0x80_0000) 13) ≡ convertedMagnitude f32 f16 m
+      go true e = subnormal m h (ltb-true m 0x3880_0000 e)
+      go false e = normal m (ltb-false m 0x3880_0000 e) k
 
 returns : tie.Need-returns
-returns c = big _ (c .if1 .taken)
+returns c = tiny _ (c .if2 .taken)
 
 returns-2 : tie.Need-returns-2
-returns-2 c = c .nearest-div .ensures ∙ normal _ (c .before .if2 .taken) (c .before .before .if1 .left)
+returns-2 c = big _ (beside 0x3300_0000 0x4780_0000 _ (c .before .if1 .taken) (c .if2 .left))
+
+in-range : (c : tie.After-places-off) → let m = c .before .before .before .args .m in (0x3300_0000 ≤ m) × (m < 0x4780_0000)
+in-range c = not-beside 0x3300_0000 0x4780_0000 _ (c .before .before .if1 .left)
+
+unit-is : (c : tie.After-places-off) → 1 * 2 ^ c .places-off .result % 2 ^ 32 ≡ 2 ^ places (c .before .before .before .args .m)
+unit-is c = ap (λ (s : ℕ). 1 * 2 ^ s % 2 ^ 32) (c .places-off .ensures) ∙ shifted _ (in-range c .0) (in-range c .1)
+
+shl-nearest-div : tie.Need-shl-nearest-div
+shl-nearest-div c = omega (arith, c .places-off .ensures, most _ (in-range c .0) (in-range c .1))
+
+nearest-div-requires : tie.Need-nearest-div-requires
+nearest-div-requires c κs =
+    let r = in-range c in (
+      omega (arith, c .before .digits-of .ensures, few _ (r .0) (r .1)),
+      subst (λ (d : ℕ). 0 < d) (sym (unit-is c)) (pow-pos (places (c .before .before .before .args .m))),
+      subst (λ (d : ℕ). d ≤ 0x0100_0000) (sym (unit-is c)) (shifted-most _ (r .0) (r .1)),
+    )
 
 returns-3 : tie.Need-returns-3
 returns-3 c =
-    let m = c .before .before .before .before .args .m in
-    let h : 0x3300_0000 ≤ m = omega arith in
-    c .nearest-div2 .ensures ∙ ap (closest (digits m)) (shifted m h) ∙ subnormal m h (omega arith)
-
-returns-4 : tie.Need-returns-4
-returns-4 c = tiny (c .before .before .before .args .m) (omega arith)
+    let d = c .before in
+    c .nearest-div .ensures
+    ∙ ap (λ (t : ℕ). closest t (1 * 2 ^ d .places-off .result % 2 ^ 32)) (d .before .digits-of .ensures)
+    ∙ ap (closest (rounded-digits (d .before .before .before .args .m))) (unit-is d)
+    ∙ near _ (in-range d .0) (in-range d .1)
 
 pub half-magnitude-spec : {M : Type 1} → statement M
-half-magnitude-spec =
-    tie.close
-    (tie.spec
-    sub-nearest-div
-    nearest-div-requires
-    add-nearest-div
-    sub-nearest-div-2
-    shl-nearest-div
-    nearest-div-requires-2
-    returns
-    returns-2
-    returns-3
-    returns-4)
+half-magnitude-spec = tie.close (tie.spec returns returns-2 (λ c κs. search needs) (λ c κs. search needs) shl-nearest-div nearest-div-requires returns-3)

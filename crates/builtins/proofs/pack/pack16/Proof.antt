@@ -3,7 +3,7 @@ use mathlib.Core.Path.{_≡_, _∙_}
 use lib.ListN.{length}
 use Rattle.values.specs.declared.Scalar.the-variants.{F32}
 use Rattle.values.specs.declared.Size.the-variants.{Two}
-use Rattle.builtins.specs.Codings.{code16Of}
+use Rattle.packing.specs.Codings.{code16Of}
 use Rattle.builtins.proofs.Packed.{packs}
 use borrow.Author.Needs.{needs}
 use Rattle.builtins.proofs.pack.pack16.Statement.{statement}

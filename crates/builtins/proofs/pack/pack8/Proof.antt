@@ -2,7 +2,7 @@
 use mathlib.Core.Path.{_≡_, _∙_}
 use lib.ListN.{length}
 use Rattle.values.specs.declared.Size.the-variants.{Four}
-use Rattle.builtins.specs.Codings.{scalar8Of, code8Of}
+use Rattle.packing.specs.Codings.{scalar8Of, code8Of}
 use Rattle.builtins.proofs.Packed.{packs}
 use borrow.Author.Needs.{needs}
 use Rattle.builtins.proofs.pack.pack8.Statement.{statement}

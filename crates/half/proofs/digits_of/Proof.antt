@@ -1,0 +1,9 @@
+-- One answer for each side of the test. Assumes nothing.
+use borrow.Author.Needs.{needs}
+use borrow.Author.Tests.{lt-ltb, le-ltb}
+use Rattle.half.proofs.digits_of.Statement.{statement}
+use Rattle.half.proofs.digits_of.Tie as tie
+
+pub digits-of-spec : {M : Type 1} → statement M
+digits-of-spec =
+    tie.close (tie.spec (λ c. search needs) (λ c. search needs) (λ c. rw (lt-ltb _ _ (c .if1 .taken))) (λ c. rw (le-ltb _ _ (c .if1 .left))))

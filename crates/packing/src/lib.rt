@@ -1,0 +1,174 @@
+// The lanes of packed words. A format is the width of its lanes, 8 or 16, and a coding: how a lane becomes a code of that width, and a code a lane.
+use values::Scalar;
+ghost use mathlib.Core.Path.{_≡_};
+ghost use mathlib.Core.List.{[], _∷_, _++_, map};
+ghost use Prim.Native.Nat.{_%_, _^_, _<_};
+ghost use lib.ListN.{take, getD};
+ghost use lib.Bits.{bitOr};
+ghost use Rattle.values.specs.Four.{four};
+ghost use Rattle.numeric.specs.Parts.{parts, joined};
+ghost use Rattle.packing.specs.Lanes.{extended, fillingFrom};
+ghost use Rattle.packing.specs.Codings.{scalar8Of, code8Of, lane8Of, code16Of, lane16Of};
+
+pub enum Coding8 {
+    Snorm,
+    Unorm,
+    Signed,
+    Unsigned,
+}
+
+pub enum Coding16 {
+    Snorm,
+    Unorm,
+    Float,
+}
+
+// ---- codes
+
+fn low8(x: u32) -> u8
+    ensures { λ r. ⌜ r ≡ x % 2 ^ 8 ⌝ }
+{
+    (x % 0x100) as u8
+}
+
+fn low16(x: u32) -> u16
+    ensures { λ r. ⌜ r ≡ x % 2 ^ 16 ⌝ }
+{
+    (x % 0x1_0000) as u16
+}
+
+fn code8(t: Coding8, x: u32) -> u8
+    ensures { λ r. ⌜ r ≡ code8Of t x ⌝ }
+{
+    match t {
+        Coding8::Snorm => low8(norm::pack_snorm8(x)),
+        Coding8::Unorm => low8(norm::pack_unorm8(x)),
+        Coding8::Signed => low8(x),
+        Coding8::Unsigned => low8(x),
+    }
+}
+
+fn code16(t: Coding16, x: u32) -> u16
+    ensures { λ r. ⌜ r ≡ code16Of t x ⌝ }
+{
+    match t {
+        Coding16::Snorm => low16(norm::pack_snorm16(x)),
+        Coding16::Unorm => low16(norm::pack_unorm16(x)),
+        Coding16::Float => half::f32_to_f16(x),
+    }
+}
+
+// ---- lanes
+
+fn extend(c: u8) -> u32
+    ensures { λ r. ⌜ r ≡ extended c ⌝ }
+{
+    if c < 0x80 {
+        c as u32
+    } else {
+        0xffff_ff00 + c as u32
+    }
+}
+
+fn same(c: u8) -> u32
+    ensures { λ r. ⌜ r ≡ c ⌝ }
+{
+    c as u32
+}
+
+fn lane8(t: Coding8, c: u8) -> u32
+    ensures { λ r. ⌜ r ≡ lane8Of t c ⌝ }
+{
+    match t {
+        Coding8::Snorm => norm::unpack_snorm8(c),
+        Coding8::Unorm => norm::unpack_unorm8(c),
+        Coding8::Signed => extend(c),
+        Coding8::Unsigned => same(c),
+    }
+}
+
+fn lane16(t: Coding16, c: u16) -> u32
+    ensures { λ r. ⌜ r ≡ lane16Of t c ⌝ }
+{
+    match t {
+        Coding16::Snorm => norm::unpack_snorm16(c),
+        Coding16::Unorm => norm::unpack_unorm16(c),
+        Coding16::Float => half::f16_to_f32(c),
+    }
+}
+
+pub fn scalar8(t: Coding8) -> Scalar
+    ensures { λ r. ⌜ r ≡ scalar8Of t ⌝ }
+{
+    match t {
+        Coding8::Snorm => Scalar::F32,
+        Coding8::Unorm => Scalar::F32,
+        Coding8::Signed => Scalar::I32,
+        Coding8::Unsigned => Scalar::U32,
+    }
+}
+
+// ---- words
+
+fn join8(a: u8, b: u8, c: u8, d: u8) -> u32
+    ensures { λ r. ⌜ r ≡ joined 8 (a ∷ b ∷ c ∷ d ∷ []) ⌝ }
+{
+    a as u32 + 0x100 * (b as u32 + 0x100 * (c as u32 + 0x100 * d as u32))
+}
+
+fn join16(a: u16, b: u16) -> u32
+    ensures { λ r. ⌜ r ≡ joined 16 (a ∷ b ∷ []) ⌝ }
+{
+    a as u32 + 0x1_0000 * b as u32
+}
+
+pub fn word8(t: Coding8, x: [u32; 4]) -> u32
+    ensures { λ r. ⌜ r ≡ joined 8 (four (code8Of t) x) ⌝ }
+{
+    join8(
+        code8(t, x[0]),
+        code8(t, x[1]),
+        code8(t, x[2]),
+        code8(t, x[3]),
+    )
+}
+
+pub fn word16(t: Coding16, x: [u32; 4]) -> u32
+    ensures { λ r. ⌜ r ≡ joined 16 (take 2 (four (code16Of t) x)) ⌝ }
+{
+    join16(code16(t, x[0]), code16(t, x[1]))
+}
+
+pub fn lanes8(t: Coding8, x: u32) -> [u32; 4]
+    ensures { λ r. ⌜ r ≡ map (lane8Of t) (parts 8 4 x) ⌝ }
+{
+    [
+        lane8(t, low8(x)),
+        lane8(t, low8(x / 0x100)),
+        lane8(t, low8(x / 0x100 / 0x100)),
+        lane8(t, low8(x / 0x100 / 0x100 / 0x100)),
+    ]
+}
+
+// Two lanes of the four.
+pub fn lanes16(t: Coding16, x: u32) -> [u32; 4]
+    ensures { λ r. ⌜ r ≡ map (lane16Of t) (parts 16 2 x) ++ 0 ∷ 0 ∷ [] ⌝ }
+{
+    [lane16(t, low16(x)), lane16(t, low16(x / 0x1_0000)), 0, 0]
+}
+
+// ---- pack4xI8Clamp
+
+// The lane at its place, its sign in every place above.
+fn fill_from(x: u32, i: u32) -> u32
+    requires { ⌜ i < 4 ⌝ }
+    ensures { λ r. ⌜ r ≡ fillingFrom x i ⌝ }
+{
+    extend(low8(x)) << (8 * i)
+}
+
+pub fn fill_word(x: [u32; 4]) -> u32
+    ensures { λ r. ⌜ r ≡ bitOr (bitOr (bitOr (fillingFrom (getD x 0 0) 0) (fillingFrom (getD x 1 0) 1)) (fillingFrom (getD x 2 0) 2)) (fillingFrom (getD x 3 0) 3) ⌝ }
+{
+    fill_from(x[0], 0) | fill_from(x[1], 1) | fill_from(x[2], 2) | fill_from(x[3], 3)
+}

@@ -1,0 +1,10 @@
+pub mod Parts
+pub mod Given
+pub mod ByPlace
+pub mod Standing
+pub mod Kept
+pub mod Facts
+pub mod RightLanes
+pub mod RightOthers
+pub mod Right
+pub mod Answered

@@ -1,0 +1,38 @@
+-- Each part of the answer is what its function ensures. Assumes nothing.
+use mathlib.Core.Path.{_∙_}
+use borrow.Author.Needs.{needs}
+use Rattle.words.proofs.short.frexp.Statement.{statement}
+use Rattle.words.proofs.short.frexp.Tie as tie
+
+scalar-at-requires : tie.Need-scalar-at-requires
+scalar-at-requires c κs = search needs
+
+is-float-requires : tie.Need-is-float-requires
+is-float-requires c κs = search needs
+
+fraction-requires : tie.Need-fraction-requires
+fraction-requires c κs = search needs
+
+integers-at-requires : tie.Need-integers-at-requires
+integers-at-requires c κs = search needs
+
+exponent-requires : tie.Need-exponent-requires
+exponent-requires c κs = search needs
+
+given-two-requires : tie.Need-given-two-requires
+given-two-requires c κs = search needs
+
+returns : tie.Need-returns
+returns c = c .given-two .ensures ∙ rw (c .before .before .before .before .is-float .ensures, c .before .before .before .fraction .ensures, c .before .exponent .ensures, c .before .before .before .before .before .scalar-at .ensures, c .before .before .integers-at .ensures .0)
+
+pub frexp-spec : {M : Type 1} → statement M
+frexp-spec =
+    tie.close
+    (tie.spec
+    scalar-at-requires
+    is-float-requires
+    fraction-requires
+    integers-at-requires
+    exponent-requires
+    given-two-requires
+    returns)
