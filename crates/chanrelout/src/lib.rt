@@ -5,7 +5,7 @@ mod number;
 ghost use mathlib.Core.Path.{_≡_};
 ghost use lib.ListN.{length};
 ghost use Rattle.half.specs.Convert.{halfOf, singleOf};
-ghost use Rattle.spelling.specs.Write.{put};
+ghost use Rattle.texts.specs.Memory.{put};
 ghost use Rattle.lines.specs.Line as text;
 ghost use Rattle.words.specs.Words.{refusalIn, writtenIn};
 ghost use Rattle.chanrelout.specs.Number.{lineNumber};

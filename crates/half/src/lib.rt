@@ -63,27 +63,37 @@ pub fn f32_to_f16(n: u32) -> u16
     (n / 0x8000_0000 * 0x8000 + half_magnitude(m)) as u16
 }
 
-// Exact. A normal half's digits move up by 13 and its exponent's field by 112.
+fn choose(on: bool, a: u32, b: u32) -> u32
+    ensures { λ r. ⌜ r ≡ cond on a b ⌝ }
+{
+    if on { a } else { b }
+}
+
+// A normal half's digits move up by 13 and its exponent's field by 112.
 fn normal_magnitude(m: u32) -> u32
-    requires { ⌜ (1024 ≤ m) × (m < 0x7c00) ⌝ }
-    ensures { λ r. ⌜ r ≡ convertedMagnitude f16 f32 m ⌝ }
+    requires { ⌜ m < 0x8000 ⌝ }
+    ensures { λ r. ⌜ (1024 ≤ m → m < 0x7c00 → r ≡ convertedMagnitude f16 f32 m) × (r < 0x8000_0000) ⌝ }
 {
     m * 8192 + 0x3800_0000
 }
 
-// The infinity, 0 and the subnormals: a subnormal's first digit becomes the leading one.
-fn rare_magnitude(m: u32) -> u32
-    requires { ⌜ (1024 ≤ m → 0x7c00 ≤ m) ⌝ }
-    ensures { λ r. ⌜ r ≡ convertedMagnitude f16 f32 m ⌝ }
+// A subnormal's first digit becomes the leading one.
+fn subnormal_magnitude(m: u32) -> u32
+    requires { ⌜ m < 0x8000 ⌝ }
+    ensures { λ r. ⌜ (0 < m → m < 1024 → r ≡ convertedMagnitude f16 f32 m) × (r < 0x8000_0000) ⌝ }
 {
-    if m >= 1024 {
-        return 0x7f80_0000;
-    }
-    if m == 0 {
-        return 0;
-    }
     let l = u32::leading_zeros(m);
     (133 - l) * 0x80_0000 + (m << (l - 8))
+}
+
+// Exact. Each kind of half is worked out and one chosen, so that no half waits for a jump.
+fn single_magnitude(m: u32) -> u32
+    requires { ⌜ m < 0x8000 ⌝ }
+    ensures { λ r. ⌜ (m ≤ 0x7c00 → r ≡ convertedMagnitude f16 f32 m) × (r < 0x8000_0000) ⌝ }
+{
+    let small = choose(m == 0, 0, subnormal_magnitude(m));
+    let finite = choose(m < 1024, small, normal_magnitude(m));
+    choose(m == 0x7c00, 0x7f80_0000, finite)
 }
 
 // The sign stands in front of the f32's magnitude. Every NaN is 7FC00000.
@@ -92,11 +102,5 @@ pub fn f16_to_f32(h: u16) -> u32
 {
     let m = (h % 0x8000) as u32;
     let sign = (h / 0x8000) as u32 * 0x8000_0000;
-    if (1024 <= m) & (m < 0x7c00) {
-        return sign + normal_magnitude(m);
-    }
-    if m > 0x7c00 {
-        return 0x7fc0_0000;
-    }
-    sign + rare_magnitude(m)
+    choose(m > 0x7c00, 0x7fc0_0000, sign + single_magnitude(m))
 }

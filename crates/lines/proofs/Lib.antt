@@ -1,4 +1,5 @@
 pub mod Tabs
+pub mod CallWords
 pub mod NamePlaces
 pub mod NameSlots
 pub mod Written

@@ -8,8 +8,8 @@ use lib.Dec.{leb}
 use lib.ListN.{length, take, drop}
 use Rattle.calls.specs.Table.{builtinAt}
 use Rattle.values.proofs.Bools.{both}
-use Rattle.spelling.specs.Text.{sameBytes}
-use Rattle.spelling.proofs.Lookup.{same-true}
+use Rattle.texts.specs.Text.{sameBytes}
+use Rattle.texts.proofs.Lookup.{same-true}
 use Rattle.spelling.proofs.Tested.{below, below-at}
 use Rattle.lines.specs.Names.{nameOf}
 use Rattle.lines.specs.Slots.{candidates, start, namesOf}

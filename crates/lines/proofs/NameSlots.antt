@@ -11,8 +11,8 @@ use Rattle.calls.specs.declared.Builtin.{Builtin}
 use Rattle.calls.specs.declared.Builtin.the-variants.{All, Any, Select, Abs, Sign, CountLeadingZeros, CountOneBits, CountTrailingZeros, Min, Max, Clamp, Saturate, Step, Cross, Dot, Transpose, Frexp, Ldexp, Bitcast, Pack4x8snorm, Pack4x8unorm, Pack4xI8, Pack4xI8Clamp, Pack4xU8, Pack4xU8Clamp, Pack2x16snorm, Pack2x16unorm, Pack2x16float, Unpack4x8snorm, Unpack4x8unorm, Unpack4xI8, Unpack4xU8, Unpack2x16snorm, Unpack2x16unorm, Unpack2x16float, Unknown}
 use Rattle.calls.specs.Table.{builtins, builtinAt}
 use Rattle.values.proofs.Bools.{both}
-use Rattle.spelling.specs.Text.{sameBytes, firstSpelled}
-use Rattle.spelling.proofs.Lookup as lookup
+use Rattle.texts.specs.Text.{sameBytes, firstSpelled}
+use Rattle.texts.proofs.Lookup as lookup
 use Rattle.lines.specs.Names.{nameOf, builtinOf}
 use Rattle.lines.specs.Slots.{candidates, slot, places, place}
 

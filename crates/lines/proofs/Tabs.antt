@@ -11,8 +11,8 @@ use lib.ListN.{length, take, drop, getD, drop-of-length-le}
 use lib.Seq.{drop-cons, drop-length, length-take-le}
 use lib.Dec.{ltb, eqb, leb·suc-suc}
 use borrow.Author.Tests.{lt-ltb, ltb-false}
-use Rattle.spelling.specs.Text.{placeOf}
-use Rattle.spelling.proofs.FirstPlace.{place-le}
+use Rattle.texts.specs.Text.{placeOf}
+use Rattle.texts.proofs.FirstPlace.{place-le}
 use Rattle.lines.specs.Fields.{tab, fields, fieldAt, onFirst, argumentCount}
 
 -- where the first tab stands, or the length
@@ -46,7 +46,7 @@ unfolding fieldAt
 field-here s = rw (cut s)
 
 -- and its length says where that is
-field-length : (s : List ℕ) → length (fieldAt s 0) ≡ tabAt s
+pub field-length : (s : List ℕ) → length (fieldAt s 0) ≡ tabAt s
 field-length s = rw (field-here s) (length-take-le (tabAt s) s (place-le tab s))
 
 -- a later field is one of what follows the first tab; past the last tab both are empty
@@ -101,41 +101,39 @@ count-most (x ∷ xs) = by (eqb x tab) (count-most xs)
 
 -- ---- fields taken off a line, one after another
 
--- f is the first field of t, and u what follows it
-abbrev Off : List ℕ → List ℕ → List ℕ → Type 0
-Off t f u = (f ≡ fieldAt t 0) × (u ≡ drop (length f + 1) t)
+-- the first field of t has n bytes, and u is what follows it
+abbrev pub Off : List ℕ → ℕ → List ℕ → Type 0
+Off t n u = (n ≡ length (fieldAt t 0)) × (u ≡ drop (n + 1) t)
 
-module _ (t f u : List ℕ) (o : Off t f u) where
-  ends : length f ≡ tabAt t
-  ends = ap length (o .0) ∙ field-length t
+module _ (t : List ℕ) (n : ℕ) (u : List ℕ) (o : Off t n u) where
+  ends : n ≡ tabAt t
+  ends = o .0 ∙ field-length t
 
   left : u ≡ rest t
-  left = o .1 ∙ ap (λ (n : ℕ). drop (n + 1) t) ends
+  left = o .1 ∙ ap (λ (m : ℕ). drop (m + 1) t) ends
 
-  next : (k : ℕ) → fieldAt u k ≡ fieldAt t (suc k)
+  pub next : (k : ℕ) → fieldAt u k ≡ fieldAt t (suc k)
   next k = rw left (sym (field-next t k))
 
-  counted : cond (ltb (length f) (length t)) 1 0 + argumentCount u ≡ argumentCount t
+  counted : cond (ltb n (length t)) 1 0 + argumentCount u ≡ argumentCount t
   counted = rw (left, ends) (sym (count-next t))
 
--- a line's first four fields, and a number that is its number of tabs
-pub record Apart (line name first second third : List ℕ) (n : ℕ) : Type 0 where
-  pub field-0 : name ≡ fieldAt line 0
-  pub field-1 : first ≡ fieldAt line 1
-  pub field-2 : second ≡ fieldAt line 2
-  pub field-3 : third ≡ fieldAt line 3
+-- the first fields of what is left are a line's second, third and fourth, and a number is its number of tabs
+pub record Apart (line t1 t2 t3 : List ℕ) (n : ℕ) : Type 0 where
+  pub field-1 : fieldAt t1 0 ≡ fieldAt line 1
+  pub field-2 : fieldAt t2 0 ≡ fieldAt line 2
+  pub field-3 : fieldAt t3 0 ≡ fieldAt line 3
   pub tabs : n ≡ argumentCount line
 
-module _ (line name first second third t1 t2 t3 t4 : List ℕ) (o : Off line name t1) (p : Off t1 first t2) (q : Off t2 second t3) (r : Off t3 third t4) where
-  pub apart : (a b c d n : ℕ) → a ≡ cond (ltb (length name) (length line)) 1 0 → b ≡ cond (ltb (length first) (length t1)) 1 0
-      → c ≡ cond (ltb (length second) (length t2)) 1 0 → d ≡ cond (ltb (length third) (length t3)) 1 0 → n ≡ argumentCount t4
-      → Apart line name first second third (a + b + c + d + n)
+module _ (line t1 t2 t3 t4 : List ℕ) (n0 n1 n2 n3 : ℕ) (o : Off line n0 t1) (p : Off t1 n1 t2) (q : Off t2 n2 t3) (r : Off t3 n3 t4) where
+  pub apart : (a b c d n : ℕ) → a ≡ cond (ltb n0 (length line)) 1 0 → b ≡ cond (ltb n1 (length t1)) 1 0
+      → c ≡ cond (ltb n2 (length t2)) 1 0 → d ≡ cond (ltb n3 (length t3)) 1 0 → n ≡ argumentCount t4
+      → Apart line t1 t2 t3 (a + b + c + d + n)
   apart a b c d n ea eb ec ed en =
-      let second-of : (k : ℕ) → fieldAt t2 k ≡ fieldAt line (suc (suc k)) = λ k. next t1 first t2 p k ∙ next line name t1 o (suc k) in
+      let second-of : (k : ℕ) → fieldAt t2 k ≡ fieldAt line (suc (suc k)) = λ k. next t1 n1 t2 p k ∙ next line n0 t1 o (suc k) in
       record {
-        field-0 = o .0;
-        field-1 = p .0 ∙ next line name t1 o 0;
-        field-2 = q .0 ∙ second-of 0;
-        field-3 = r .0 ∙ next t2 second t3 q 0 ∙ second-of 1;
-        tabs = omega (arith, counted line name t1 o, counted t1 first t2 p, counted t2 second t3 q, counted t3 third t4 r);
+        field-1 = next line n0 t1 o 0;
+        field-2 = second-of 0;
+        field-3 = next t2 n2 t3 q 0 ∙ second-of 1;
+        tabs = omega (arith, counted line n0 t1 o, counted t1 n1 t2 p, counted t2 n2 t3 q, counted t3 n3 t4 r);
       }

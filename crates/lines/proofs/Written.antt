@@ -1,52 +1,23 @@
--- Writes that have room are made, and one after another they are one write. What an answer says by its refusal and its room. Assumes nothing.
+-- What a line's answer says by its refusal and its room, and how long it can be. Assumes nothing.
 use Prim.Native.Nat.{ℕ, _+_, _<_, _≤_}
 use mathlib.Core.Bool.{Bool, true, false, cond}
 use mathlib.Core.List.{List, [], _∷_, _++_}
 use mathlib.Core.Path.{_≡_, refl, ap, sym, _∙_}
 use native.Mathlib.Omega.{arith}
-use borrow.Author.Tests.{le-leb, lt-ltb, le-ltb, ne-eqb}
-use lib.Dec.{ltb, eqb}
+use native.Mathlib.Nat.{zero-add}
+use lib.Dec.{eqb}
 use lib.ListN.{length, length-append}
-use Rattle.values.specs.Value.{isType}
+use Rattle.values.specs.Value.{isType, kindAt, value}
 use Rattle.values.specs.declared.Value.{Value}
 use Rattle.builtins.specs.declared.Answer.{Answer}
-use Rattle.spelling.specs.Write.{put, fits, textOf}
+use Rattle.texts.specs.Memory.{put}
+use Rattle.spelling.specs.Write.{textOf}
+use Rattle.shorts.specs.Shorts.{longOf}
+use Rattle.shorts.proofs.ByPlace.{typed}
 use Rattle.spelling.proofs.Texts.{at-most-155}
-use Rattle.spelling.proofs.Puts.{put-length, then}
-use Rattle.lines.specs.Line.{lineOf, refusalOf, secondText, answerOf, refusalIn, writtenIn}
-
--- what the next place and the memory are where a write is made if it has room
-abbrev Tried : List ℕ → ℕ → List ℕ → ℕ → List ℕ → Type 0
-Tried o at xs r o′ = (r ≡ cond (fits o at xs) (at + length xs) at) × (o′ ≡ cond (fits o at xs) (put o at xs) o)
-
-abbrev Made : List ℕ → ℕ → List ℕ → ℕ → List ℕ → Type 0
-Made o at xs r o′ = (r ≡ at + length xs) × (o′ ≡ put o at xs)
-
-pub made : (o : List ℕ) (at : ℕ) (xs : List ℕ) {r : ℕ} {o′ : List ℕ} → at + length xs ≤ length o → Tried o at xs r o′ → Made o at xs r o′
-made o at xs h t = rw (le-leb (at + length xs) (length o) h) at t
-
-pub both-made : (o : List ℕ) (at : ℕ) (xs ys : List ℕ) {r s : ℕ} {o′ o″ : List ℕ} → at + length (xs ++ ys) ≤ length o → Made o at xs r o′ → Made o′ r ys s o″ → Made o at (xs ++ ys) s o″
-both-made o at xs ys h (a, b) (e, f) = (omega (arith, a, e, length-append xs ys), then o at xs ys (omega (arith, h, length-append xs ys)) b a f)
-
--- the second write has room where both have
-pub room-left : (o : List ℕ) (at : ℕ) (xs ys : List ℕ) {r : ℕ} {o′ : List ℕ} → at + length (xs ++ ys) ≤ length o → Made o at xs r o′ → r + length ys ≤ length o′
-room-left o at xs ys h (a, b) = omega (arith, a, h, ap length b, put-length o at xs (omega (arith, h, length-append xs ys)), length-append xs ys)
-
--- ---- an answer in lent memory: what is told and written there, by the refusal and by what the answer takes of the room
-
-abbrev pub Given : ℕ → ℕ → ℕ → List ℕ → ℕ → List ℕ → Type 0
-Given room takes refusal answer r xs =
-    let told = cond (eqb refusal 0) (cond (ltb room takes) 8 0) refusal in (told ≡ r) × (cond (eqb told 0) answer [] ≡ xs)
-
-module _ (room takes refusal : ℕ) (answer : List ℕ) where
-  pub given-refused : (refusal ≡ 0 → ⊥) → Given room takes refusal answer refusal []
-  given-refused h = (rw (ne-eqb refusal 0 h), rw (ne-eqb refusal 0 h, ne-eqb refusal 0 h))
-
-  pub given-short : refusal ≡ 0 → room < takes → Given room takes refusal answer 8 []
-  given-short e h = (rw (e, lt-ltb room takes h), rw (e, lt-ltb room takes h))
-
-  pub given-room : refusal ≡ 0 → takes ≤ room → Given room takes refusal answer 0 answer
-  given-room e h = (rw (e, le-ltb room takes h), rw (e, le-ltb room takes h))
+use Rattle.texts.proofs.Puts.{Made, both-made, put-nil, given-refused, given-short, given-room}
+use Rattle.lines.specs.Fields.{tab}
+use Rattle.lines.specs.Line.{lineOf, refusalOf, secondText, answerOf, refusalIn, writtenIn, lineAnswer}
 
 -- of a line's answer
 module _ (room : ℕ) (line : List ℕ) where
@@ -74,6 +45,43 @@ module _ (line : List ℕ) {a : Answer} (e : a ≡ lineOf line) where
 
   pub answer-length : length (answerOf line) ≡ length (textOf (a .first)) + length (secondText (a .second))
   answer-length = ap length (sym answer-is) ∙ length-append (textOf (a .first)) (secondText (a .second))
+
+-- ---- what the code does of an answer, by its refusal and its room
+
+module _ (o line : List ℕ) {a : Answer} (e : a ≡ lineOf line) where
+  pub refused-so : (a .refusal ≡ 0 → ⊥) → (record { refusal = a .refusal; len = 0 } ≡ lineAnswer (length o) line) × (o ≡ put o 0 (writtenIn (length o) line))
+  unfolding lineAnswer
+  refused-so h =
+      let r = refusal-is line e in
+      let w = in-refused (length o) line (λ z. h (r ∙ z)) in
+      (rw (w .0, w .1, ← r), sym (ap (put o 0) (w .1) ∙ put-nil o 0))
+
+  pub short-so : a .refusal ≡ 0 → length o < length (textOf (a .first)) + length (secondText (a .second))
+      → (record { refusal = 8; len = 0 } ≡ lineAnswer (length o) line) × (o ≡ put o 0 (writtenIn (length o) line))
+  unfolding lineAnswer
+  short-so z h =
+      let w = in-short (length o) line (sym (refusal-is line e) ∙ z) (omega (arith, answer-length line e)) in
+      (rw (w .0, w .1), sym (ap (put o 0) (w .1) ∙ put-nil o 0))
+
+  pub answered-so : a .refusal ≡ 0 → length (textOf (a .first)) + length (secondText (a .second)) ≤ length o → {n r : ℕ} {o′ o″ : List ℕ}
+      → Made o 0 (textOf (a .first)) n o′ → Made o′ n (secondText (a .second)) r o″
+      → (record { refusal = 0; len = r } ≡ lineAnswer (length o) line) × (o″ ≡ put o 0 (writtenIn (length o) line))
+  unfolding lineAnswer
+  answered-so z h f g =
+      let room : 0 + length (textOf (a .first) ++ secondText (a .second)) ≤ length o = omega (arith, length-append (textOf (a .first)) (secondText (a .second))) in
+      let w = in-room (length o) line (sym (refusal-is line e) ∙ z) (omega (arith, answer-length line e)) in
+      let m = both-made o 0 (textOf (a .first)) (secondText (a .second)) room f g in
+      let x = answer-is line e in
+      (rw (w .0, w .1, ← x, m .0, zero-add), m .1 ∙ ap (put o 0) (x ∙ sym (w .1)))
+
+-- a second value by its type's place
+pub second-none : (p : ℕ) (x : List ℕ) → p ≡ 0 → secondText (longOf p x) ≡ []
+unfolding secondText value kindAt
+second-none p x e = rw e
+
+pub second-some : (p : ℕ) (x : List ℕ) → (p ≡ 0 → ⊥) → p ≤ 20 → secondText (longOf p x) ≡ (tab ∷ []) ++ textOf (longOf p x)
+unfolding secondText value
+second-some p x h k = rw (typed p (omega arith) k)
 
 -- no answer is longer than two values and a tab
 second-most : (v : Value) → length (secondText v) ≤ 156

@@ -13,7 +13,7 @@ use Rattle.calls.specs.declared.Builtin.the-variants.{Bitcast}
 use Rattle.calls.specs.declared.Call.{Call}
 use Rattle.builtins.specs.declared.Answer.{Answer}
 use Rattle.builtins.specs.Fold.{refused, foldOf}
-use Rattle.spelling.specs.Text.{sameBytes}
+use Rattle.texts.specs.Text.{sameBytes}
 use Rattle.spelling.specs.Types.{kindOf}
 use Rattle.spelling.specs.Read.{readValue}
 use Rattle.spelling.specs.Write.{textOf}

@@ -4,7 +4,7 @@ use mathlib.Core.List.{List, []}
 use Rattle.calls.specs.declared.Builtin.{Builtin}
 use Rattle.calls.specs.declared.Builtin.the-variants.{All, Any, Select, Abs, Sign, CountLeadingZeros, CountOneBits, CountTrailingZeros, Min, Max, Clamp, Saturate, Step, Cross, Dot, Transpose, Frexp, Ldexp, Bitcast, Pack4x8snorm, Pack4x8unorm, Pack4xI8, Pack4xI8Clamp, Pack4xU8, Pack4xU8Clamp, Pack2x16snorm, Pack2x16unorm, Pack2x16float, Unpack4x8snorm, Unpack4x8unorm, Unpack4xI8, Unpack4xU8, Unpack2x16snorm, Unpack2x16unorm, Unpack2x16float, Unknown}
 use Rattle.calls.specs.Table.{builtins}
-use Rattle.spelling.specs.Text.{bytes, firstSpelled}
+use Rattle.texts.specs.Text.{bytes, firstSpelled}
 
 abbrev pub nameOf : Builtin → List ℕ
 nameOf All = bytes "all"

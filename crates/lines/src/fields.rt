@@ -9,7 +9,7 @@ ghost use Rattle.lines.specs.Fields.{fieldAt, argumentCount};
 pub fn field(t: &[u8]) -> &[u8]
     ensures { λ r. ⌜ now r ≡ fieldAt (now (t .entry)) 0 ⌝ }
 {
-    let n = spelling::find(t, b'\t');
+    let n = texts::find(t, b'\t');
     &t[0..n]
 }
 

@@ -1,9 +1,8 @@
 // The builtins' names, read.
-use calls::Builtin;
 ghost use mathlib.Core.Path.{_≡_};
 ghost use Prim.Native.Nat.{_-_, _<_};
 ghost use Rattle.calls.specs.Table.{builtinAt};
-ghost use Rattle.spelling.specs.Text.{sameBytes};
+ghost use Rattle.texts.specs.Text.{sameBytes};
 ghost use Rattle.lines.specs.Names.{nameOf, builtinOf};
 ghost use Rattle.lines.specs.Slots.{start, slot, place};
 
@@ -110,17 +109,13 @@ fn named(i: usize, s: &[u8]) -> bool
     let start = start_of(i);
     let end = start_of(i + 1);
     let text = TEXT;
-    spelling::same(&text[start..end], s)
+    texts::same(&text[start..end], s)
 }
 
-// The builtin of a name, Unknown where there is none: only the one that has the name's slot can have the name.
-pub fn builtin_of(s: &[u8]) -> Builtin
-    ensures { λ r. ⌜ r ≡ builtinOf (now (s .entry)) ⌝ }
+// The number of the builtin of a name, Unknown's where there is none: only the one that has the name's slot can have the name.
+pub fn number_of(s: &[u8]) -> u64
+    ensures { λ r. ⌜ builtinAt r ≡ builtinOf (now (s .entry)) ⌝ }
 {
     let i = place_at(slot_of(s));
-    if named(i, s) {
-        calls::builtin_at(i as u64)
-    } else {
-        Builtin::Unknown
-    }
+    if named(i, s) { i as u64 } else { 0 }
 }

@@ -7,10 +7,10 @@ use Rattle.values.specs.Value.{sameKind, kinds}
 use Rattle.values.specs.declared.Kind.{Kind}
 use Rattle.values.specs.declared.Kind.the-variants.{Empty}
 use Rattle.values.proofs.Places as places
-use Rattle.spelling.specs.Text.{sameBytes}
+use Rattle.texts.specs.Text.{sameBytes}
 use Rattle.spelling.specs.Types.{spelled, kindOf}
 use Rattle.spelling.specs.Guess.{guessOf}
-use Rattle.spelling.proofs.Lookup as lookup
+use Rattle.texts.proofs.Lookup as lookup
 use Rattle.spelling.proofs.Spellings.{kind-spelled}
 
 guess-spelled : (k : Kind) → guessOf (spelled k) ≡ k

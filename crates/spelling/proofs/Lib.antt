@@ -1,11 +1,9 @@
 pub mod Digits
 pub mod Edges
-pub mod FirstPlace
 pub mod Guesses
 pub mod Hexes
-pub mod Lookup
+pub mod LanePuts
 pub mod Numbers
-pub mod Puts
 pub mod ReadsBack
 pub mod Scan
 pub mod Spellings

@@ -1,5 +1,5 @@
 -- Bytes that spell digits, one more at a time, and the number that they spell: digits after others shift what those spell. By induction on the bytes. Assumes nothing.
-use Prim.Native.Nat.{ℕ, zero, suc, _+_, _*_, _<_, _≤_, _^_}
+use Prim.Native.Nat.{ℕ, suc, _+_, _*_, _<_, _≤_, _^_}
 use mathlib.Core.Bool.{Bool, _&&_, and-true, and-assoc}
 use mathlib.Core.List.{List, [], _∷_, _++_}
 use mathlib.Core.Path.{_≡_, refl, sym, _∙_}
@@ -11,16 +11,19 @@ use lib.Seq.{getD-drop, take-suc, take-add, drop-drop, length-take-le}
 use Rattle.values.specs.Value.{every}
 use Rattle.spelling.specs.Hex.{digitOf, digitsBelow, number}
 
--- a test holds of the first n places and the next where it holds of the first n and of the next
-every-more : (q : ℕ → Bool) (s : List ℕ) (n : ℕ) → n < length s → every q (take (suc n) s) ≡ every q (take n s) && q (getD s n 0)
-every-more q [] n h = absurd (omega arith)
-every-more q (x ∷ xs) zero h = and-true (q x)
-every-more q (x ∷ xs) (suc n) h = rw (every-more q xs n (omega arith)) (sym (and-assoc (q x) (every q (take n xs)) (q (getD xs n 0))))
+every-append : (q : ℕ → Bool) (xs ys : List ℕ) → every q (xs ++ ys) ≡ every q xs && every q ys
+every-append q [] ys = refl
+every-append q (x ∷ xs) ys = rw (every-append q xs ys) (sym (and-assoc (q x) (every q xs) (every q ys)))
 
 -- a digit more, from i on
 pub digits-more : (b : ℕ) (s : List ℕ) (i n : ℕ) → i + n < length s
     → digitsBelow b (take (suc n) (drop i s)) ≡ digitsBelow b (take n (drop i s)) && ltb (digitOf (getD s (i + n) 0)) b
-digits-more b s i n h = rw (← (getD-drop i s n 0)) (every-more (λ x. ltb (digitOf x) b) (drop i s) n (omega (arith, length-drop i s)))
+digits-more b s i n h = rw (take-suc (drop i s) n 0 (omega (arith, length-drop i s)), every-append, getD-drop, and-true)
+
+-- two parts of digits
+pub digits-parts : (b : ℕ) (s : List ℕ) (i n m : ℕ)
+    → digitsBelow b (take (n + m) (drop i s)) ≡ digitsBelow b (take n (drop i s)) && digitsBelow b (take m (drop (i + n) s))
+digits-parts b s i n m = rw (take-add n m (drop i s), drop-drop n i s, every-append)
 
 number-append : (v : ℕ) (xs ys : List ℕ) → number v (xs ++ ys) ≡ number (number v xs) ys
 unfolding number

@@ -14,7 +14,7 @@ use Rattle.values.specs.declared.Value.{Value}
 use Rattle.values.specs.declared.Scalar.{Scalar}
 use Rattle.values.specs.declared.Scalar.the-variants.{Boolean, I32, U32, F32, F16}
 use Rattle.values.specs.declared.Kind.{Kind}
-use Rattle.spelling.specs.Text.{byte}
+use Rattle.texts.specs.Text.{byte}
 use Rattle.spelling.specs.Types.{spelled, kindOf}
 use Rattle.values.proofs.Bools.{both}
 use Rattle.values.proofs.Places.{each, lanes-at-most-16, typed}
@@ -23,7 +23,7 @@ use Rattle.spelling.proofs.Spellings.{kind-spelled}
 use Rattle.spelling.specs.Hex.{digitCount, digitBound, hexByte, hexBytes}
 use Rattle.spelling.specs.Read.{good, before, lanesAt, found, reading, colonAt, readLanes, readValue}
 use Rattle.spelling.specs.Write.{lanesText, textOf}
-use Rattle.spelling.proofs.FirstPlace.{without, place-after}
+use Rattle.texts.proofs.FirstPlace.{without, place-after}
 use Rattle.spelling.proofs.Scan.{digit-step}
 use Rattle.spelling.proofs.Hexes.{digit-byte, no-digits, hex-front, hex-none, digit-more}
 
@@ -103,13 +103,16 @@ kind-back k p x xs e f =
 colon-spelled : (k : Kind) (r : List ℕ) → colonAt (spelled k ++ (58 ∷ r)) ≡ length (spelled k)
 colon-spelled k r = place-after (byte ":") (spelled k) r (each (λ l. without (byte ":") (spelled l)) refl k)
 
+-- so a type is read, and what comes after its colon
+pub type-back : (k : Kind) (r : List ℕ) → readValue (spelled k ++ (58 ∷ r)) ≡ readLanes k (length (spelled k) + 2) r
+type-back k r = cut-back (spelled k) r (colon-spelled k r) ∙ rw (kind-spelled k)
+
 lanes-given : (k : Kind) (l : List ℕ) → 0 < laneCount k → length l ≡ laneCount k → Fits (digitBound (scalarOf k)) (digitCount (scalarOf k)) l
     → readValue (spelled k ++ lanesText 58 (digitCount (scalarOf k)) l) ≡ found (value k l)
 unfolding lanesText
 lanes-given k [] h e f = absurd (omega arith)
 lanes-given k (x ∷ xs) h e f =
-    let r = hexBytes (digitCount (scalarOf k)) x ++ lanesText 44 (digitCount (scalarOf k)) xs in
-    cut-back (spelled k) r (colon-spelled k r) ∙ rw (kind-spelled k) (kind-back k (length (spelled k) + 2) x xs e f)
+    type-back k (hexBytes (digitCount (scalarOf k)) x ++ lanesText 44 (digitCount (scalarOf k)) xs) ∙ kind-back k (length (spelled k) + 2) x xs e f
 
 -- what is written is read back
 pub read-back : (v : Value) → length (v .lanes) ≡ 16 → wellFormed v ≡ true → readValue (textOf v) ≡ found v

@@ -1,15 +1,15 @@
 -- What one byte does to the reading of lanes, what digits in a row do, and how the lanes come into the array: each step opens the definition at one byte, and a row is as many steps. Assumes nothing.
 use Prim.Native.Nat.{ℕ, zero, suc, _+_, _*_, _-_, _<_, _≤_, _^_}
-use mathlib.Core.Bool.{Bool, true, _&&_}
+use mathlib.Core.Bool.{true}
 use mathlib.Core.List.{List, [], _∷_, _++_}
 use mathlib.Core.Path.{_≡_, refl, ap, sym, _∙_}
 use native.Mathlib.Numerals.{add-one}
 use native.Mathlib.Nat.{pow-suc, pow-le-pow-right, add-assoc, add-zero, zero-add, sub-zero, zero-sub, suc-sub-suc}
 use native.Mathlib.Omega.{arith}
-use lib.Dec.{eqb, ltb, leb, eqb·suc-zero}
+use lib.Dec.{ltb, eqb·suc-zero}
 use lib.ListN.{length, take, drop, getD, set, replicate, length-drop, take-append-drop}
 use lib.Seq.{drop-cons, drop-drop, drop-length, length-take-le, take-all}
-use borrow.Author.Tests.{eq-eqb, ne-eqb, lt-ltb, le-ltb, eqb-true, ltb-true, leb-true}
+use borrow.Author.Tests.{eq-eqb, ne-eqb, lt-ltb, le-ltb, ltb-true}
 use Rattle.values.specs.Value.{laneCount, scalarOf, value}
 use Rattle.values.proofs.Bools.{both}
 use Rattle.values.specs.declared.Scalar.{Scalar}
@@ -17,11 +17,11 @@ use Rattle.values.specs.declared.Kind.{Kind}
 use Rattle.spelling.specs.declared.Reading.{Reading}
 use Rattle.spelling.specs.declared.Fault.the-variants.{Lanes, Digit}
 use Rattle.spelling.specs.Hex.{digitCount, digitBound, digitOf, digitsBelow, number}
-use Rattle.spelling.specs.Write.{put}
+use Rattle.texts.specs.Memory.{put}
 use Rattle.spelling.specs.Read.{Scanned, digitAt, countAt, good, before, lanesAt, wrong, found, reading, colonAt, readLanes, readValue}
 use Rattle.spelling.specs.Types.{kindOf}
 use Rattle.spelling.proofs.Numbers.{number-after}
-use Rattle.spelling.proofs.Puts.{put-put, put-set}
+use Rattle.texts.proofs.Puts.{put-put, put-set}
 
 -- one byte of the lanes
 module _ (b w n d p v : ℕ) (s : List ℕ) (i : ℕ) (h : i < length s) where
@@ -54,13 +54,6 @@ digit-step b w n d p u c q t e h =
     let z : suc d - 1 ≡ d = omega arith in
     rw (eqb·suc-zero d, e, lt-ltb q b h, z)
 
--- what the test for digits in a row says
-pub all-due : (d k n m : ℕ) (t : Bool) → eqb d k && leb n m && t ≡ true → (d ≡ k) × (n ≤ m) × (t ≡ true)
-all-due d k n m t e =
-    let f = both (eqb d k && leb n m) t e in
-    let g = both (eqb d k) (leb n m) (f .0) in
-    (eqb-true d k (g .0), leb-true n m (g .1), f .1)
-
 -- digits in a row
 digits-on : (b w n d p v : ℕ) (xs r : List ℕ) → digitsBelow b xs ≡ true → lanesAt b w n (length xs + d) p v (xs ++ r) ≡ lanesAt b w n d (p + length xs) (number v xs) r
 unfolding number
@@ -75,16 +68,6 @@ digits-on b w n d p v (x ∷ xs) r t =
 pub grows : (v d i : ℕ) → v < 16 ^ i → d < 16 → v * 16 + d < 16 ^ (i + 1)
 grows v d i h k = rw (add-one, pow-suc) (omega arith)
 
--- and by digits in a row
-row-grows : (b v k : ℕ) (xs : List ℕ) → b ≤ 16 → digitsBelow b xs ≡ true → v < 16 ^ k → number v xs < 16 ^ (k + length xs)
-unfolding number
-row-grows b v k [] h t g = rw add-zero g
-row-grows b v k (x ∷ xs) h t g =
-    let d = both (ltb (digitOf x) b) (digitsBelow b xs) t in
-    let l = ltb-true (digitOf x) b (d .0) in
-    let f : k + suc (length xs) ≡ k + 1 + length xs = omega arith in
-    rw f (row-grows b (v * 16 + digitOf x) (k + 1) xs h (d .1) (grows v (digitOf x) k g (omega arith)))
-
 -- all digits that are due, from i on
 module _ (b w v : ℕ) (s : List ℕ) (i k : ℕ) (h : i + k ≤ length s) (t : digitsBelow b (take k (drop i s)) ≡ true) where
   due-length : length (take k (drop i s)) ≡ k
@@ -98,11 +81,6 @@ module _ (b w v : ℕ) (s : List ℕ) (i k : ℕ) (h : i + k ≤ length s) (t : 
   digits-next n p e q =
       rw (q, ← due-number, e, ← add-assoc p i k, ← drop-drop k i s)
       (rw (due-length, add-zero, take-append-drop) at (digits-on b w n 0 (p + i) v (take k (drop i s)) (drop k (drop i s)) t))
-
-  pub digits-fit : {d : ℕ} → d ≡ k → b ≤ 16 → d ≤ w → v < 16 ^ (w - d) → v * 16 ^ k + number 0 (take k (drop i s)) < 16 ^ w
-  digits-fit e a g f =
-      let z : w - k + k ≡ w = omega arith in
-      rw (← due-number) (rw (due-length, z) at (row-grows b v (w - k) (take k (drop i s)) a t (rw e at f)))
 
 -- the end of the field
 drop-end : (s : List ℕ) (i : ℕ) → i ≡ length s → drop i s ≡ []

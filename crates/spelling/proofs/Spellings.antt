@@ -14,8 +14,8 @@ use Rattle.values.specs.declared.Kind.{Kind}
 use Rattle.values.specs.declared.Kind.the-variants.{Empty}
 use Rattle.values.proofs.Places as places
 use Rattle.spelling.specs.declared.Spelling.{Spelling}
-use Rattle.spelling.proofs.Lookup.{found}
-use Rattle.spelling.specs.Text.{sameBytes, firstSpelled}
+use Rattle.texts.proofs.Lookup.{found}
+use Rattle.texts.specs.Text.{sameBytes, firstSpelled}
 use Rattle.spelling.specs.Types.{spelled, spelling, kindOf}
 
 -- ---- types

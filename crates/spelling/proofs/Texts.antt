@@ -5,6 +5,7 @@ use mathlib.Core.Path.{_≡_, refl, ap, sym, _∙_}
 use native.Mathlib.Nat.{zero-mul, suc-mul, mul-le-mul}
 use native.Mathlib.Omega.{arith}
 use lib.ListN.{length, take, length-append, length-take}
+use lib.Seq.{length-take-le}
 use Rattle.values.specs.Value.{laneCount, scalarOf, lanesOf}
 use Rattle.values.specs.declared.Value.{Value}
 use Rattle.values.specs.declared.Scalar.{Scalar}
@@ -12,7 +13,7 @@ use Rattle.values.specs.declared.Scalar.the-variants.{Boolean, I32, U32, F32, F
 use Rattle.values.proofs.Places.{lanes-at-most-16}
 use Rattle.spelling.specs.Types.{spelled}
 use Rattle.spelling.specs.Hex.{digitCount, hexBytes}
-use Rattle.spelling.specs.Write.{lanesText, textOf}
+use Rattle.spelling.specs.Write.{lanesText, textOf, textLength}
 use Rattle.spelling.proofs.Spellings.{at-most-11}
 
 pub length-hex : (n v : ℕ) → length (hexBytes n v) ≡ n
@@ -33,6 +34,17 @@ module _ (v : Value) {n w : ℕ} {s : Scalar} (en : n ≡ laneCount (v .kind)) (
 
   pub text-length : length (textOf v) ≡ length (spelled (v .kind)) + length (lanesText 58 w (take n (v .lanes)))
   text-length = ap length text-parts ∙ length-append (spelled (v .kind)) (lanesText 58 w (take n (v .lanes)))
+
+-- by its type alone
+pub text-by-type : (v : Value) → laneCount (v .kind) ≤ length (v .lanes) → length (textOf v) ≡ textLength (v .kind)
+unfolding textLength
+text-by-type v h =
+    text-length v refl refl refl
+    ∙ rw (length-lanes 58 (digitCount (scalarOf (v .kind))) (lanesOf v), length-take-le (laneCount (v .kind)) (v .lanes) h)
+
+-- a value in hand has 16 lanes, as many as any type asks for
+pub text-16 : (v : Value) → length (v .lanes) ≡ 16 → length (textOf v) ≡ textLength (v .kind)
+text-16 v e = text-by-type v (omega (arith, lanes-at-most-16 (v .kind)))
 
 at-most-8 : (s : Scalar) → digitCount s ≤ 8
 at-most-8 Boolean = omega arith

@@ -10,7 +10,7 @@ use lib.Seq.{take-at}
 use lib.Dec.{ltb, eqb, eqb·suc-zero}
 use borrow.Author.Tests.{lt-ltb, ltb-true, ltb-false, eqb-true, eqb-false}
 use Rattle.values.specs.Value.{laneBits, laneCount, scalarOf, value, emptyValue, every, wellFormed}
-use Rattle.spelling.specs.Text.{byte}
+use Rattle.texts.specs.Text.{byte}
 use Rattle.spelling.specs.Hex.{digitCount, digitBound, digitOf, hexBytes}
 use Rattle.values.specs.declared.Scalar.{Scalar}
 use Rattle.values.specs.declared.Scalar.the-variants.{Boolean, I32, U32, F32, F16}
@@ -21,11 +21,11 @@ use Rattle.values.specs.declared.Value.{Value}
 use Rattle.values.proofs.Places.{lanes-at-most-16, typed}
 use Rattle.values.proofs.Formed.{formed, lanes-16}
 use Rattle.spelling.specs.declared.Fault.{Fault}
-use Rattle.spelling.specs.declared.Fault.the-variants.{Nothing, TypeSpelling}
+use Rattle.spelling.specs.declared.Fault.the-variants.{Nothing, TypeSpelling, Lanes, Digit}
 use Rattle.spelling.specs.declared.Reading.{Reading}
 use Rattle.spelling.specs.Read.{faultNumber, Scanned, digitAt, countAt, good, before, lanesAt, wrong, found, reading, colonAt, readLanes, readValue}
 use Rattle.spelling.specs.Write.{lanesText, textOf}
-use Rattle.spelling.proofs.FirstPlace.{place-split}
+use Rattle.texts.proofs.FirstPlace.{place-split}
 use Rattle.spelling.proofs.Hexes.{byte-digit, no-digits, hex-front, hex-none, digit-low, digit-high, div-suc}
 use Rattle.spelling.proofs.Scan.{one-at-least}
 use Rattle.spelling.proofs.ReadsBack.{Fit, Fits, none, more}
@@ -266,3 +266,17 @@ fault-empty s =
     let r = lanesAt (digitBound (scalarOf k)) (digitCount (scalarOf k)) (laneCount k - 1) (digitCount (scalarOf k)) (colonAt s + 2) 0 (drop (colonAt s + 1) s) in
     cond-empty (ltb (colonAt s) (length s)) (cond (eqb (laneCount k) 0) (wrong TypeSpelling 1) (reading k r)) (wrong TypeSpelling 1)
     (cond-empty (eqb (laneCount k) 0) (wrong TypeSpelling 1) (reading k r) (λ h. wrong-empty TypeSpelling 1) (reading-empty k r)) (λ h. wrong-empty TypeSpelling 1)
+
+-- so what is read has 16 lanes
+pub read-lanes : (s : List ℕ) → length (readValue s .value .lanes) ≡ 16
+unfolding emptyValue
+read-lanes s = by (readValue s .fault) refl
+  where
+    empty : {f : Fault} → readValue s .fault ≡ f → 0 < faultNumber f → length (readValue s .value .lanes) ≡ 16
+    empty e h = rw (fault-empty s (λ n. omega (arith, ap faultNumber e, told n)))
+
+    by : (f : Fault) → readValue s .fault ≡ f → length (readValue s .value .lanes) ≡ 16
+    by Nothing e = written-so s e .lanes
+    by TypeSpelling e = empty e (omega arith)
+    by Lanes e = empty e (omega arith)
+    by Digit e = empty e (omega arith)

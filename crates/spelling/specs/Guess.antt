@@ -12,7 +12,7 @@ use Rattle.values.specs.declared.Size.{Size}
 use Rattle.values.specs.declared.Size.the-variants.{Two, Three, Four}
 use Rattle.values.specs.declared.Kind.{Kind}
 use Rattle.values.specs.declared.Kind.the-variants.{Empty, One, Vec, Mat}
-use Rattle.spelling.specs.Text.{byte}
+use Rattle.texts.specs.Text.{byte}
 
 abbrev pub sizeBy : ℕ → Size
 sizeBy x = cond (eqb x (byte "2")) Two (cond (eqb x (byte "3")) Three Four)

@@ -1,4 +1,3 @@
-pub mod Text
 pub mod Types
 pub mod Guess
 pub mod Hex

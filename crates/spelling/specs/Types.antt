@@ -10,7 +10,7 @@ use Rattle.values.specs.declared.Size.the-variants.{Two, Three, Four}
 use Rattle.values.specs.declared.Kind.{Kind}
 use Rattle.values.specs.declared.Kind.the-variants.{Empty, One, Vec, Mat}
 use Rattle.spelling.specs.declared.Spelling.{Spelling}
-use Rattle.spelling.specs.Text.{byte, bytes, firstSpelled}
+use Rattle.texts.specs.Text.{byte, bytes, firstSpelled}
 
 abbrev pub scalarText : Scalar → List ℕ
 scalarText Boolean = bytes "bool"

@@ -1,12 +1,11 @@
--- How a value is spelled, and what writing bytes into lent memory gives: 01, "Lines": "A value is type, colon, lanes parted by commas". Definitions only.
-use Prim.Native.Nat.{ℕ, _+_}
-use mathlib.Core.Bool.{Bool}
+-- How a value is spelled: 01, "Lines": "A value is type, colon, lanes parted by commas". Definitions only.
+use Prim.Native.Nat.{ℕ, _+_, _*_}
 use mathlib.Core.List.{List, [], _∷_, _++_}
-use lib.Dec.{leb}
-use lib.ListN.{length, take, drop}
-use Rattle.values.specs.Value.{scalarOf, lanesOf}
+use lib.ListN.{length}
+use Rattle.values.specs.Value.{laneCount, scalarOf, lanesOf}
+use Rattle.values.specs.declared.Kind.{Kind}
 use Rattle.values.specs.declared.Value.{Value}
-use Rattle.spelling.specs.Text.{byte}
+use Rattle.texts.specs.Text.{byte}
 use Rattle.spelling.specs.Types.{spelled}
 use Rattle.spelling.specs.Hex.{digitCount, hexBytes}
 
@@ -19,10 +18,6 @@ lanesText before w (v ∷ vs) = before ∷ (hexBytes w v ++ lanesText (byte ",")
 unfoldable pub textOf : Value → List ℕ
 textOf v = spelled (v .kind) ++ lanesText (byte ":") (digitCount (scalarOf (v .kind))) (lanesOf v)
 
--- o with xs from `at` on, and no other entry changed
-unfoldable pub put : List ℕ → ℕ → List ℕ → List ℕ
-put o at xs = take at o ++ xs ++ drop (at + length xs) o
-
--- there is room for xs from `at` on
-abbrev pub fits : List ℕ → ℕ → List ℕ → Bool
-fits o at xs = leb (at + length xs) (length o)
+-- how many bytes that is, whatever the lanes
+unfoldable pub textLength : Kind → ℕ
+textLength k = length (spelled k) + laneCount k * (digitCount (scalarOf k) + 1)

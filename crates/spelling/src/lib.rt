@@ -5,93 +5,17 @@ use values::Size;
 use values::Value;
 use values::Width;
 ghost use mathlib.Core.Path.{_≡_};
-ghost use mathlib.Core.Bool.{cond, _&&_};
+ghost use mathlib.Core.Bool.{cond};
 ghost use mathlib.Core.List.{[], _∷_};
 ghost use Prim.Native.Nat.{_+_, _*_, _<_, _≤_, _^_};
-ghost use lib.Dec.{eqb, leb};
-ghost use lib.ListN.{length, take, drop};
-ghost use Rattle.spelling.specs.Text.{byte, sameBytes, placeOf};
+ghost use lib.ListN.{length, take};
+ghost use Rattle.texts.specs.Text.{byte, sameBytes};
+ghost use Rattle.texts.specs.Memory.{put, fits};
 ghost use Rattle.spelling.specs.Types.{spelled, spelling, kindOf, sizeByte};
 ghost use Rattle.spelling.specs.Guess.{sizeBy, widthBy, scalarBy, guessOf};
-ghost use Rattle.spelling.specs.Hex.{digitCount, digitBound, digitOf, digitsBelow, number, DigitTable, HexTable, hexBytes};
+ghost use Rattle.spelling.specs.Hex.{digitCount, digitBound, digitOf, DigitTable, HexTable, hexBytes};
 ghost use Rattle.spelling.specs.Read.{lanesAt, reading, readLanes, readValue, wrong, found};
-ghost use Rattle.spelling.specs.Write.{put, fits, lanesText, textOf};
-
-// ---- bytes
-
-// Whether eight bytes from i on are the same in both. The tests are joined without branches, so that all eight are one.
-fn eight_same(a: &[u8], b: &[u8], i: usize) -> bool
-    requires { ⌜ (i + 8 ≤ length (now a)) × (i + 8 ≤ length (now b)) ⌝ }
-    ensures { λ r. ⌜ r ≡ sameBytes (take 8 (drop i (now (a .entry)))) (take 8 (drop i (now (b .entry)))) ⌝ }
-{
-    (a[i] == b[i])
-        & (a[i + 1] == b[i + 1])
-        & (a[i + 2] == b[i + 2])
-        & (a[i + 3] == b[i + 3])
-        & (a[i + 4] == b[i + 4])
-        & (a[i + 5] == b[i + 5])
-        & (a[i + 6] == b[i + 6])
-        & (a[i + 7] == b[i + 7])
-}
-
-// Whether two slices hold the same bytes.
-pub fn same(a: &[u8], b: &[u8]) -> bool
-    ensures { λ r. ⌜ r ≡ sameBytes (now (a .entry)) (now (b .entry)) ⌝ }
-{
-    if a.len() != b.len() {
-        return false;
-    }
-    let mut i = 0;
-    while a.len() - i >= 8 {
-        if !eight_same(a, b, i) {
-            return false;
-        }
-        i += 8;
-    }
-    while i < a.len() {
-        if a[i] != b[i] {
-            return false;
-        }
-        i += 1;
-    }
-    true
-}
-
-// Whether none of the eight bytes from i on is b, tested as one too.
-fn none_of_eight(s: &[u8], i: usize, b: u8) -> bool
-    requires { ⌜ i + 8 ≤ length (now s) ⌝ }
-    ensures { λ r. ⌜ r ≡ leb 8 (placeOf b (drop i (now (s .entry)))) ⌝ }
-{
-    (s[i] != b)
-        & (s[i + 1] != b)
-        & (s[i + 2] != b)
-        & (s[i + 3] != b)
-        & (s[i + 4] != b)
-        & (s[i + 5] != b)
-        & (s[i + 6] != b)
-        & (s[i + 7] != b)
-}
-
-// Where the first b stands, or the length.
-pub fn find(s: &[u8], b: u8) -> usize
-    ensures { λ r. ⌜ (r ≡ placeOf b (now (s .entry))) × (r ≤ length (now (s .entry))) ⌝ }
-{
-    let mut i = 0;
-    while s.len() - i >= 8 {
-        if none_of_eight(s, i, b) {
-            i += 8;
-        } else {
-            break;
-        }
-    }
-    while i < s.len() {
-        if s[i] == b {
-            return i;
-        }
-        i += 1;
-    }
-    i
-}
+ghost use Rattle.spelling.specs.Write.{lanesText, textOf, textLength};
 
 // ---- types
 
@@ -250,7 +174,7 @@ fn spells(k: Kind, s: &[u8]) -> bool
     let t = spelling_of(k);
     let b = t.bytes;
     let n = t.len;
-    same(&b[0..n], s)
+    texts::same(&b[0..n], s)
 }
 
 fn size_by(x: u8) -> Size
@@ -354,7 +278,7 @@ fn found_value(v: Value) -> Reading
 }
 
 // How many digits spell a lane.
-fn digit_count(s: Scalar) -> usize
+pub fn digit_count(s: Scalar) -> usize
     ensures { λ r. ⌜ (r ≡ digitCount s) × (r ≤ 8) ⌝ }
 {
     match s {
@@ -399,14 +323,14 @@ const DIGITS: [u8; 256] = *b"\
     \x10\x10\x10\x10\x10\x10\x10\x10\x10\x10\x10\x10\x10\x10\x10\x10";
 
 // The table, to be read once before many bytes are looked up in it: each reading of a constant array copies it.
-fn digit_table() -> [u8; 256]
+pub fn digit_table() -> [u8; 256]
     ensures { λ r. ⌜ DigitTable r ⌝ }
 {
     DIGITS
 }
 
 // The digit that a byte spells, 16 where it spells none.
-fn digit(table: &[u8; 256], b: u8) -> u8
+pub fn digit(table: &[u8; 256], b: u8) -> u8
     requires { ⌜ DigitTable (now table) ⌝ }
     ensures { λ r. ⌜ (r ≡ digitOf b) × (r ≤ 16) ⌝ }
 {
@@ -419,55 +343,7 @@ fn wide(x: u8) -> u64
     x as u64
 }
 
-// Whether eight bytes from i on spell digits below b, all tested as one.
-fn eight_digits(table: &[u8; 256], s: &[u8], i: usize, b: u8) -> bool
-    requires { ⌜ DigitTable (now table) × (i + 8 ≤ length (now s)) ⌝ }
-    ensures { λ r. ⌜ r ≡ digitsBelow b (take 8 (drop i (now (s .entry)))) ⌝ }
-{
-    (digit(table, s[i]) < b)
-        & (digit(table, s[i + 1]) < b)
-        & (digit(table, s[i + 2]) < b)
-        & (digit(table, s[i + 3]) < b)
-        & (digit(table, s[i + 4]) < b)
-        & (digit(table, s[i + 5]) < b)
-        & (digit(table, s[i + 6]) < b)
-        & (digit(table, s[i + 7]) < b)
-}
-
-// Whether eight digits are due, and stand from i on.
-fn eight_due(table: &[u8; 256], s: &[u8], i: usize, due: usize, b: u8) -> bool
-    requires { ⌜ DigitTable (now table) × (i ≤ length (now s)) ⌝ }
-    ensures { λ r. ⌜ r ≡ (eqb due 8 && leb (i + 8) (length (now (s .entry))) && digitsBelow b (take 8 (drop i (now (s .entry))))) ⌝ }
-{
-    if due != 8 {
-        return false;
-    }
-    if s.len() - i < 8 {
-        return false;
-    }
-    eight_digits(table, s, i, b)
-}
-
-// The number that four digits from i on spell.
-fn four_value(table: &[u8; 256], s: &[u8], i: usize) -> u64
-    requires { ⌜ DigitTable (now table) × (i + 4 ≤ length (now s)) ⌝ }
-    ensures { λ r. ⌜ (r ≡ number 0 (take 4 (drop i (now (s .entry))))) × (r < 2 ^ 17) ⌝ }
-{
-    wide(digit(table, s[i])) * 4096
-        + wide(digit(table, s[i + 1])) * 256
-        + wide(digit(table, s[i + 2])) * 16
-        + wide(digit(table, s[i + 3]))
-}
-
-// The number that eight digits from i on spell.
-fn eight_value(table: &[u8; 256], s: &[u8], i: usize) -> u64
-    requires { ⌜ DigitTable (now table) × (i + 8 ≤ length (now s)) ⌝ }
-    ensures { λ r. ⌜ r ≡ number 0 (take 8 (drop i (now (s .entry)))) ⌝ }
-{
-    four_value(table, s, i) * 65536 + four_value(table, s, i + 4)
-}
-
-// The n + 1 lanes of a value, each of w digits below b; s starts at place p. Eight digits that are due are read at once; where one of them is wrong, byte by byte up to it.
+// The n + 1 lanes of a value, each of w digits below b; s starts at place p.
 fn read_lanes(kind: Kind, s: &[u8], p: usize, n: usize, w: usize, b: u8) -> Reading
     requires { ⌜ (n ≤ 15) × (w ≤ 16) × (b ≤ 16) × (p + length (now s) < 2 ^ 64) ⌝ }
     ensures { λ r. ⌜ r ≡ reading kind (lanesAt b w n w p 0 (now (s .entry))) ⌝ }
@@ -480,12 +356,6 @@ fn read_lanes(kind: Kind, s: &[u8], p: usize, n: usize, w: usize, b: u8) -> Read
     let mut lane: u64 = 0;
     let mut i: usize = 0;
     while i < s.len() {
-        if eight_due(&table, s, i, due, b) {
-            lane = lane * 4294967296 + eight_value(&table, s, i);
-            i += due;
-            due = 0;
-            continue;
-        }
         let x = s[i];
         if due == 0 {
             if x != b',' {
@@ -540,7 +410,7 @@ fn read_of(k: Kind, s: &[u8], p: usize) -> Reading
 pub fn read_value(s: &[u8]) -> Reading
     ensures { λ r. ⌜ r ≡ readValue (now (s .entry)) ⌝ }
 {
-    let c = find(s, b':');
+    let c = texts::find(s, b':');
     if c == s.len() {
         return wrong_at(Fault::TypeSpelling, 1);
     }
@@ -572,7 +442,7 @@ fn put_hex(out: &mut [u8], at: usize, n: usize, v: u64)
     }
 }
 
-fn put_byte(out: &mut [u8], at: usize, b: u8)
+pub fn put_byte(out: &mut [u8], at: usize, b: u8)
     requires { ⌜ at < length (now out) ⌝ }
     ensures { λ _. ⌜ now (out .exit) ≡ put (now (out .entry)) at (b ∷ []) ⌝ }
 {
@@ -590,9 +460,9 @@ fn put_lane(out: &mut [u8], at: usize, b: u8, w: usize, v: u64) -> usize
 }
 
 // The first n lanes, a colon before the first and a comma before each other; answers the next place.
-fn put_lanes(out: &mut [u8], at: usize, n: usize, w: usize, lanes: [u64; 16]) -> usize
-    requires { ⌜ (at + length (lanesText (byte ":") w (take n lanes)) ≤ length (now out)) × (n ≤ 16) × (w ≤ 16) ⌝ }
-    ensures { λ r. ⌜ (r ≡ at + length (lanesText (byte ":") w (take n lanes))) × (now (out .exit) ≡ put (now (out .entry)) at (lanesText (byte ":") w (take n lanes))) ⌝ }
+pub fn put_lanes(out: &mut [u8], at: usize, n: usize, w: usize, lanes: &[u64]) -> usize
+    requires { ⌜ (at + length (lanesText (byte ":") w (take n (now lanes))) ≤ length (now out)) × (n ≤ length (now lanes)) × (w ≤ 16) ⌝ }
+    ensures { λ r. ⌜ (r ≡ at + length (lanesText (byte ":") w (take n (now (lanes .entry))))) × (now (out .exit) ≡ put (now (out .entry)) at (lanesText (byte ":") w (take n (now (lanes .entry))))) ⌝ }
 {
     let mut next = at;
     let mut before = b':';
@@ -605,19 +475,6 @@ fn put_lanes(out: &mut [u8], at: usize, n: usize, w: usize, lanes: [u64; 16]) ->
     next
 }
 
-// The bytes of s, written from `at` on; answers the next place.
-fn copy(out: &mut [u8], at: usize, s: &[u8]) -> usize
-    requires { ⌜ at + length (now s) ≤ length (now out) ⌝ }
-    ensures { λ r. ⌜ (r ≡ at + length (now (s .entry))) × (now (out .exit) ≡ put (now (out .entry)) at (now (s .entry))) ⌝ }
-{
-    let mut i: usize = 0;
-    while i < s.len() {
-        out[at + i] = s[i];
-        i += 1;
-    }
-    at + i
-}
-
 // A type's spelling; answers the next place.
 fn put_kind(out: &mut [u8], at: usize, k: Kind) -> usize
     requires { ⌜ at + length (spelled k) ≤ length (now out) ⌝ }
@@ -626,7 +483,7 @@ fn put_kind(out: &mut [u8], at: usize, k: Kind) -> usize
     let t = spelling_of(k);
     let b = t.bytes;
     let n = t.len;
-    copy(out, at, &b[0..n])
+    texts::put_bytes(out, at, &b[0..n])
 }
 
 // A value's spelling; answers the next place.
@@ -639,7 +496,7 @@ fn spell_out(out: &mut [u8], at: usize, v: Value) -> usize
     let n = values::lane_count(k);
     let w = digit_count(values::scalar_of(k));
     let next = put_kind(out, at, k);
-    put_lanes(out, next, n, w, l)
+    put_lanes(out, next, n, w, &l)
 }
 
 fn lanes_len(n: usize, w: usize) -> usize
@@ -649,41 +506,20 @@ fn lanes_len(n: usize, w: usize) -> usize
     n * (w + 1)
 }
 
-// How many bytes spell a value.
-pub fn text_len(v: Value) -> usize
-    ensures { λ r. ⌜ (r ≡ length (textOf v)) × (r ≤ 155) ⌝ }
+// How many bytes spell a value of a type.
+pub fn text_len(k: Kind) -> usize
+    ensures { λ r. ⌜ (r ≡ textLength k) × (r ≤ 155) ⌝ }
 {
-    let k = v.kind;
     let t = spelling_of(k);
     t.len + lanes_len(values::lane_count(k), digit_count(values::scalar_of(k)))
-}
-
-// Whether n bytes from `at` on lie within len bytes.
-fn room(len: usize, at: usize, n: usize) -> bool
-    ensures { λ r. ⌜ r ≡ leb (at + n) len ⌝ }
-{
-    if len < n {
-        return false;
-    }
-    at <= len - n
-}
-
-// The bytes of s, written from `at` on if there is room for them, and nothing if not; answers the next place.
-pub fn put_bytes(out: &mut [u8], at: usize, s: &[u8]) -> usize
-    ensures { λ r. ⌜ (r ≡ cond (fits (now (out .entry)) at (now (s .entry))) (at + length (now (s .entry))) at) × (now (out .exit) ≡ cond (fits (now (out .entry)) at (now (s .entry))) (put (now (out .entry)) at (now (s .entry))) (now (out .entry))) ⌝ }
-{
-    if room(out.len(), at, s.len()) {
-        copy(out, at, s)
-    } else {
-        at
-    }
 }
 
 // A value's spelling, written from `at` on if there is room for it, and nothing if not; answers the next place.
 pub fn put_value(out: &mut [u8], at: usize, v: Value) -> usize
     ensures { λ r. ⌜ (r ≡ cond (fits (now (out .entry)) at (textOf v)) (at + length (textOf v)) at) × (now (out .exit) ≡ cond (fits (now (out .entry)) at (textOf v)) (put (now (out .entry)) at (textOf v)) (now (out .entry))) ⌝ }
 {
-    if room(out.len(), at, text_len(v)) {
+    let k = v.kind;
+    if texts::room(out.len(), at, text_len(k)) {
         spell_out(out, at, v)
     } else {
         at

@@ -9,7 +9,7 @@ use lib.Seq.{drop-drop, take-append-seam, drop-nil}
 use lib.Dec.{eqb}
 use borrow.Author.Tests.{eq-eqb, ne-eqb, eqb-true}
 use Rattle.lines.specs.Line.{mostBytes}
-use Rattle.spelling.specs.Write.{put}
+use Rattle.texts.specs.Memory.{put}
 use Rattle.stream.specs.Stream.{lineRoom, partOf, heldOf, stepPart, stepOf, bufferOf, textOf, Run, writes, linesIn}
 use Rattle.stream.specs.declared.Part.{Part}
 use Rattle.stream.specs.declared.Held.{Held}

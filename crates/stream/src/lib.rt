@@ -6,7 +6,7 @@ ghost use mathlib.Core.Bool.{cond};
 ghost use Prim.Native.Nat.{_+_, _-_, _/_, _<_, _≤_, min};
 ghost use lib.Dec.{eqb};
 ghost use lib.ListN.{length};
-ghost use Rattle.spelling.specs.Write.{put};
+ghost use Rattle.texts.specs.Memory.{put};
 ghost use Rattle.stream.specs.Stream.{lineRoom, linesIn, pieceText, pieceOf, partText, partOf, heldOf, startOf, stepOf, bufferOf, textOf};
 ghost use Rattle.stream.specs.Printed.{digits, places, refusedText, answerLine};
 ghost use Rattle.lines.specs.Line.{writtenIn, lineAnswer};
@@ -94,7 +94,7 @@ fn put_refusal(out: &mut [u8], at: usize, refusal: u8) -> usize
     }
     let v = wide(refusal);
     let n = places_of(v);
-    let e = spelling::put_bytes(out, at, b"refused\t");
+    let e = texts::put_bytes(out, at, b"refused\t");
     put_digits(out, e, n, v)
 }
 
@@ -139,7 +139,7 @@ fn fold_piece(s: &[u8], skip: bool, last: bool, out: &mut [u8], at: usize) -> Pa
         × (now (out .exit) ≡ put (now (out .entry)) at (pieceText skip last (now (s .entry)))) ⌝ }
 {
     let n = s.len();
-    let e = spelling::find(s, b'\n');
+    let e = texts::find(s, b'\n');
     let ended = e < n;
     let over = n > lines::MOST_BYTES;
     let due = !skip & (ended | over | (last & (n > 0)));

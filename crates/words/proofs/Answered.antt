@@ -21,9 +21,11 @@ use Rattle.calls.specs.declared.Builtin.the-variants.{All, Any, Select, Abs, Si
 use Rattle.calls.specs.Table.{builtinAt}
 use Rattle.builtins.specs.Fold.{foldOf}
 use Rattle.words.specs.declared.short.Short.{Short}
-use Rattle.words.specs.Words.{valueAt, callOf, wordsOf, refusalIn, writtenIn}
-use Rattle.words.specs.Short.{isShort, cutOf, given, shortBy, longOf, answerBy}
-use Rattle.words.proofs.ByPlace.{inside, outside, own-place, integers-within}
+use Rattle.shorts.specs.Shorts.{wordsOf}
+use Rattle.words.specs.Words.{valueAt, callOf, refusalIn, writtenIn}
+use Rattle.shorts.specs.Shorts.{longOf}
+use Rattle.words.specs.Short.{isShort, cutOf, given, shortBy, answerBy}
+use Rattle.shorts.proofs.ByPlace.{inside, outside, own-place, integers-within}
 use Rattle.words.proofs.Given.{told-answer}
 use Rattle.words.proofs.Right.{right}
 use Rattle.words.proofs.Standing.{not-there, there, not-short}
@@ -133,7 +135,10 @@ module _ (w : List ℕ) (s : isShort (valueAt w 3) ≡ true) {which : Builtin} {
       let p = place-there w 3 s in
       rw er (within (getD w 1 0) (getD w 2 0) (getD w 3 0) x (valueAt w 20) (valueAt w 37) (p .0) (p .1) which)
 
-  pub told-so : (room : ℕ) → not (r .taken) ≡ false → 34 ≤ room
-      → (refusalIn room w ≡ 0) × (writtenIn room w ≡ wordsOf (longOf (r .first) (r .lanes)) ++ wordsOf (longOf (r .second) (r .more)))
-  told-so room t h =
-      rw result-is (told-answer room w (answer-is w s (ap (λ (a : Short). a .taken) (sym result-is) ∙ not-false (r .taken) t)) refl h)
+  pub taken-so : r .taken ≡ true → answerBy r ≡ foldOf (callOf w)
+  taken-so t = rw result-is (answer-is w s (ap (λ (a : Short). a .taken) (sym result-is) ∙ t))
+
+-- what a call is told whose answer the short way has
+pub told-so : (room : ℕ) (w : List ℕ) (r : Short) → (r .taken ≡ true → answerBy r ≡ foldOf (callOf w)) → not (r .taken) ≡ false → 34 ≤ room
+    → (refusalIn room w ≡ 0) × (writtenIn room w ≡ wordsOf (longOf (r .first) (r .lanes)) ++ wordsOf (longOf (r .second) (r .more)))
+told-so room w r e t h = told-answer room w (e (not-false (r .taken) t)) refl h

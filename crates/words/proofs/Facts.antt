@@ -25,7 +25,8 @@ use Rattle.calls.specs.Refuse.{byteSize, judged}
 use Rattle.builtins.specs.declared.Answer.{Answer}
 use Rattle.builtins.specs.Fold.{answered, foldBy, foldOf}
 use Rattle.builtins.specs.Fold as Long
-use Rattle.words.specs.Short.{isShort, isOf, cutOf, given, shortBy, longOf, answerBy}
+use Rattle.shorts.specs.Shorts.{longOf}
+use Rattle.words.specs.Short.{isShort, isOf, cutOf, given, shortBy, answerBy}
 
 -- ---- values
 

@@ -4,8 +4,9 @@ use mathlib.Core.List.{List, [], _++_}
 use mathlib.Core.Path.{_≡_}
 use Rattle.builtins.specs.declared.Answer.{Answer}
 use Rattle.builtins.specs.Fold.{foldOf}
-use Rattle.lines.proofs.Written.{given-refused, given-short, given-room}
-use Rattle.words.specs.Words.{callOf, wordsOf, answerOf, refusalIn, writtenIn}
+use Rattle.texts.proofs.Puts.{given-refused, given-short, given-room}
+use Rattle.shorts.specs.Shorts.{wordsOf}
+use Rattle.words.specs.Words.{callOf, answerOf, refusalIn, writtenIn}
 
 module _ (room : ℕ) (w : List ℕ) {a : Answer} (e : a ≡ foldOf (callOf w)) where
   pub told-refused : (a .refusal ≡ 0 → ⊥) → (refusalIn room w ≡ a .refusal) × (writtenIn room w ≡ [])

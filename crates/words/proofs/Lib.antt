@@ -1,8 +1,7 @@
 pub mod Parts
 pub mod Given
-pub mod ByPlace
+pub mod TakenByPlace
 pub mod Standing
-pub mod Kept
 pub mod Facts
 pub mod RightLanes
 pub mod RightOthers

@@ -40,7 +40,8 @@ use Rattle.builtins.specs.Fold.{answered, answeredTwice}
 use Rattle.builtins.proofs.Casting.{cast-value}
 use Rattle.builtins.proofs.Packed.{value-lanes, packs, uncut}
 use Rattle.builtins.proofs.Products.{cross-is, dot-is}
-use Rattle.words.specs.Short.{isShort, isOf, cutOf, given, givenOne, fillFour, longOf, answerBy}
+use Rattle.shorts.specs.Shorts.{longOf}
+use Rattle.words.specs.Short.{isShort, isOf, cutOf, given, givenOne, fillFour, answerBy}
 use Rattle.words.proofs.Facts.{short-formed, short-lanes, held, passes1, passesCast, alike2, passes-alike2, folds, answered-given, folded, Agrees}
 
 -- ---- answers of a type, and of a scalar type

@@ -17,7 +17,8 @@ use Rattle.values.proofs.Formed.{judged}
 use Rattle.words.specs.Words.{valueAt}
 use Rattle.words.specs.Short.{isShort, isOf, isCondition, cutOf}
 use Rattle.words.proofs.Parts.{wordsFrom, words-are}
-use Rattle.words.proofs.ByPlace.{few-at, typed, own-place, has-lanes, other-place, no-boolean, byPlaces, byTypes, choosing}
+use Rattle.shorts.proofs.ByPlace.{few-at, typed, own-place, has-lanes, other-place}
+use Rattle.words.proofs.TakenByPlace.{no-boolean, byPlaces, byTypes, choosing}
 
 -- a test of each number, after b
 abbrev pub joinedTo : Bool → (ℕ → Bool) → List ℕ → Bool

@@ -8,11 +8,12 @@ use lib.ListN.{take, getD}
 use Rattle.values.specs.declared.Scalar.the-variants.{Boolean, I32}
 use Rattle.values.specs.declared.Kind.the-variants.{One}
 use Rattle.values.specs.declared.Value.{Value}
-use Rattle.values.specs.Value.{scalarOf, laneCount, shaped, place, kindAt, sameKind, lane, value, every, wellFormed}
+use Rattle.values.specs.Value.{scalarOf, laneCount, shaped, place, kindAt, sameKind, lane, every, wellFormed}
 use Rattle.values.specs.Four.{low, four, four2, four3, isLanes}
 use Rattle.numeric.specs.Numeric.{absLane, signLane, leadingLane, onesLane, trailingLane, minLane, maxLane, clampLane, saturateLane, stepLane, crossLane, dotLane}
 use Rattle.numeric.specs.Parts.{parts, joined}
 use Rattle.exponent.specs.Exponent.{fractionLane, exponentLane, ldexpLane}
+use Rattle.shorts.specs.Shorts.{longOf}
 use Rattle.calls.specs.declared.Builtin.{Builtin}
 use Rattle.calls.specs.declared.Builtin.the-variants.{All, Any, Select, Abs, Sign, CountLeadingZeros, CountOneBits, CountTrailingZeros, Min, Max, Clamp, Saturate, Step, Cross, Dot, Transpose, Frexp, Ldexp, Bitcast, Pack4x8snorm, Pack4x8unorm, Pack4xI8, Pack4xI8Clamp, Pack4xU8, Pack4xU8Clamp, Pack2x16snorm, Pack2x16unorm, Pack2x16float, Unpack4x8snorm, Unpack4x8unorm, Unpack4xI8, Unpack4xU8, Unpack2x16snorm, Unpack2x16unorm, Unpack2x16float, Unknown}
 use Rattle.calls.specs.declared.Taken.the-variants.{Booleans, Numbers, Integers, Ordered, Floats, Singles, Vectors}
@@ -114,8 +115,5 @@ shortBy Unpack2x16float n t p x b c = given (eqb n 1 && eqb p 3) 9 (map (lane16O
 shortBy Unknown n t p x b c = given false p x
 
 -- the answer that it stands for
-abbrev pub longOf : ℕ → List ℕ → Value
-longOf p x = value (kindAt p) (take (laneCount (kindAt p)) x)
-
 abbrev pub answerBy : Short → Answer
 answerBy s = record { refusal = 0; first = longOf (s .first) (s .lanes); second = longOf (s .second) (s .more) }

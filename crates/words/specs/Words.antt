@@ -1,11 +1,12 @@
 -- A call and its answer as words of 64 bits, for a program that links the library. Definitions only.
 use Prim.Native.Nat.{ℕ, _+_}
 use mathlib.Core.Bool.{cond}
-use mathlib.Core.List.{List, [], _∷_, _++_}
+use mathlib.Core.List.{List, [], _++_}
 use lib.Dec.{leb, ltb, eqb}
 use lib.ListN.{length, take, drop, getD}
-use Rattle.values.specs.Value.{kindAt, place, emptyValue}
+use Rattle.values.specs.Value.{kindAt, emptyValue}
 use Rattle.values.specs.declared.Value.{Value}
+use Rattle.shorts.specs.Shorts.{wordsOf}
 use Rattle.calls.specs.declared.Call.{Call}
 use Rattle.calls.specs.Table.{builtinAt}
 use Rattle.builtins.specs.Fold.{foldOf}
@@ -17,9 +18,6 @@ valueAt w at = cond (leb (at + 17) (length w)) (record { kind = kindAt (getD w a
 -- A call is a builtin by its number, a count, a type and three values; a word that is not there is 0, and words past the last value's are not looked at.
 unfoldable pub callOf : List ℕ → Call
 callOf w = record { builtin = builtinAt (getD w 0 0); count = getD w 1 0; target = kindAt (getD w 2 0); a = valueAt w 3; b = valueAt w 20; c = valueAt w 37 }
-
-abbrev pub wordsOf : Value → List ℕ
-wordsOf v = place (v .kind) ∷ v .lanes
 
 -- An answer is its two values.
 unfoldable pub answerOf : List ℕ → List ℕ

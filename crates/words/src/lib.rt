@@ -1,10 +1,10 @@
 // Calls and answers as words of 64 bits: specs/Words says what stands where.
-mod short;
-mod words;
+pub mod long;
+pub mod short;
 
 ghost use mathlib.Core.Path.{_≡_};
 ghost use lib.ListN.{length};
-ghost use Rattle.spelling.specs.Write.{put};
+ghost use Rattle.texts.specs.Memory.{put};
 ghost use Rattle.words.specs.Words.{refusalIn, writtenIn};
 
 // Folds a call of words into the words of its answer. Answers the refusal's number, 0 where there is none.
@@ -15,14 +15,14 @@ pub fn fold(call: &[u64], out: &mut [u64]) -> u8
     if short::fold(call, out) {
         return 0;
     }
-    let a = builtins::fold(words::call_of(call));
+    let a = builtins::fold(long::call_of(call));
     if a.refusal != 0 {
         return a.refusal;
     }
     if out.len() < 34 {
         return 8;
     }
-    words::put_value(out, 0, a.first);
-    words::put_value(out, 17, a.second);
+    long::put_value(out, 0, a.first);
+    long::put_value(out, 17, a.second);
     0
 }

@@ -12,17 +12,18 @@ ghost use mathlib.Core.List.{[], _∷_, _++_, map};
 ghost use Prim.Native.Nat.{_+_, _/_, _%_, _^_, _≤_, _<_};
 ghost use lib.Dec.{eqb, ltb};
 ghost use lib.ListN.{length, take, drop, getD};
-ghost use Rattle.values.specs.Value.{scalarOf, laneCount, shaped, place, kindAt, emptyValue, every, wellFormed};
+ghost use Rattle.values.specs.Value.{scalarOf, shaped, place, kindAt, emptyValue, every, wellFormed};
 ghost use Rattle.values.specs.Four.{four};
 ghost use Rattle.numeric.specs.Parts.{parts, joined};
 ghost use Rattle.calls.specs.Table.{taken};
 ghost use Rattle.calls.specs.Refuse.{byteSize};
+ghost use Rattle.builtins.specs.Fold.{foldOf};
 ghost use Rattle.builtins.specs.Logical.{flag};
 ghost use Rattle.builtins.specs.Halves.{isHalf};
 ghost use Rattle.packing.specs.Codings.{code8Of, lane8Of, code16Of, lane16Of};
-ghost use Rattle.spelling.specs.Write.{put};
-ghost use Rattle.words.specs.Words.{valueAt, wordsOf, refusalIn, writtenIn};
-ghost use Rattle.words.specs.Short.{isShort, isOf, isCondition, cutOf, conditionOf, given, givenOne, givenTwo, castBy, shortBy, longOf};
+ghost use Rattle.texts.specs.Memory.{put};
+ghost use Rattle.words.specs.Words.{valueAt, callOf, refusalIn, writtenIn};
+ghost use Rattle.words.specs.Short.{isShort, isOf, isCondition, cutOf, conditionOf, given, givenOne, givenTwo, castBy, shortBy, answerBy};
 
 // What the short way gives: two types by their places, and four lanes of each. `taken` says whether it is the call's answer.
 pub struct Short {
@@ -48,26 +49,6 @@ const VEC4_F32: u64 = 19;
 const BOOL: u64 = 1;
 
 const U32: u64 = 3;
-
-fn count_at(p: u64) -> usize
-    requires { ⌜ p ≤ 20 ⌝ }
-    ensures { λ r. ⌜ (r ≡ laneCount (kindAt p)) × (r ≤ 4) ⌝ }
-{
-    ((p + 4) / 5) as usize
-}
-
-fn scalar_at(p: u64) -> Scalar
-    requires { ⌜ (1 ≤ p) × (p ≤ 20) ⌝ }
-    ensures { λ r. ⌜ r ≡ scalarOf (kindAt p) ⌝ }
-{
-    match (p + 4) % 5 {
-        0 => Scalar::Boolean,
-        1 => Scalar::I32,
-        2 => Scalar::U32,
-        3 => Scalar::F32,
-        _ => Scalar::F16,
-    }
-}
 
 // Whether the type is in a set, which has a bit for each place.
 fn among(set: u64, p: u64) -> bool
@@ -131,7 +112,7 @@ fn integers_at(p: u64) -> u64
     requires { ⌜ (1 ≤ p) × (p ≤ 20) ⌝ }
     ensures { λ r. ⌜ (r ≡ place (shaped Scalar.I32 (kindAt p))) × ((1 ≤ r) × (r ≤ 20)) ⌝ }
 {
-    5 * count_at(p) as u64 - 3
+    5 * shorts::count_at(p) as u64 - 3
 }
 
 // ---- values where they stand
@@ -171,7 +152,13 @@ fn lanes_ok(w: &[u64], at: usize, p: u64) -> bool
     requires { ⌜ (at + 17 ≤ length (now w)) × ((1 ≤ p) × (p ≤ 20)) ⌝ }
     ensures { λ r. ⌜ r ≡ wellFormed (record { kind = kindAt p; lanes = take 16 (drop (at + 1) (now (w .entry))) }) ⌝ }
 {
-    four_ok(w, at, count_at(p), values::lane_bound(scalar_at(p))) & none_past(w, at)
+    four_ok(
+        w,
+        at,
+        shorts::count_at(p),
+        values::lane_bound(shorts::scalar_at(p)),
+    )
+        & none_past(w, at)
 }
 
 // Whether a scalar or a vector stands there, well formed.
@@ -277,7 +264,9 @@ fn is_condition(w: &[u64], p: u64) -> bool
     if (c == 0) | (c > 20) {
         return false;
     }
-    is_boolean(c) & ((c == BOOL) | (count_at(c) == count_at(p))) & lanes_ok(w, 37, c)
+    is_boolean(c)
+        & ((c == BOOL) | (shorts::count_at(c) == shorts::count_at(p)))
+        & lanes_ok(w, 37, c)
 }
 
 // The condition's lanes. A scalar one holds for every lane.
@@ -311,7 +300,7 @@ fn all(n: u64, p: u64, x: [u32; 4]) -> Short
     given_one(
         (n == 1) & is_boolean(p),
         BOOL,
-        flag_of(each_is(count_at(p), x, 1)),
+        flag_of(each_is(shorts::count_at(p), x, 1)),
     )
 }
 
@@ -322,7 +311,7 @@ fn any(n: u64, p: u64, x: [u32; 4]) -> Short
     given_one(
         (n == 1) & is_boolean(p),
         BOOL,
-        flag_of(!each_is(count_at(p), x, 0)),
+        flag_of(!each_is(shorts::count_at(p), x, 0)),
     )
 }
 
@@ -342,14 +331,22 @@ fn abs(n: u64, p: u64, x: [u32; 4]) -> Short
     requires { ⌜ (1 ≤ p) × (p ≤ 20) ⌝ }
     ensures { λ r. ⌜ r ≡ shortBy Builtin.Abs n 0 p x emptyValue emptyValue ⌝ }
 {
-    given((n == 1) & is_number(p), p, numeric::abs(scalar_at(p), x))
+    given(
+        (n == 1) & is_number(p),
+        p,
+        numeric::abs(shorts::scalar_at(p), x),
+    )
 }
 
 fn sign(n: u64, p: u64, x: [u32; 4]) -> Short
     requires { ⌜ (1 ≤ p) × (p ≤ 20) ⌝ }
     ensures { λ r. ⌜ r ≡ shortBy Builtin.Sign n 0 p x emptyValue emptyValue ⌝ }
 {
-    given((n == 1) & is_number(p), p, numeric::sign(scalar_at(p), x))
+    given(
+        (n == 1) & is_number(p),
+        p,
+        numeric::sign(shorts::scalar_at(p), x),
+    )
 }
 
 fn count_leading_zeros(n: u64, p: u64, x: [u32; 4]) -> Short
@@ -385,7 +382,7 @@ fn min(w: &[u64], n: u64, p: u64, x: [u32; 4]) -> Short
     given(
         taken,
         p,
-        numeric::order::min(scalar_at(p), x, cut_at(w, 20)),
+        numeric::order::min(shorts::scalar_at(p), x, cut_at(w, 20)),
     )
 }
 
@@ -397,7 +394,7 @@ fn max(w: &[u64], n: u64, p: u64, x: [u32; 4]) -> Short
     given(
         taken,
         p,
-        numeric::order::max(scalar_at(p), x, cut_at(w, 20)),
+        numeric::order::max(shorts::scalar_at(p), x, cut_at(w, 20)),
     )
 }
 
@@ -409,7 +406,7 @@ fn clamp(w: &[u64], n: u64, p: u64, x: [u32; 4]) -> Short
     given(
         taken,
         p,
-        numeric::order::clamp(scalar_at(p), x, cut_at(w, 20), cut_at(w, 37)),
+        numeric::order::clamp(shorts::scalar_at(p), x, cut_at(w, 20), cut_at(w, 37)),
     )
 }
 
@@ -428,7 +425,7 @@ fn step(w: &[u64], n: u64, p: u64, x: [u32; 4]) -> Short
     given(
         taken,
         p,
-        numeric::order::step(scalar_at(p), x, cut_at(w, 20)),
+        numeric::order::step(shorts::scalar_at(p), x, cut_at(w, 20)),
     )
 }
 
@@ -445,8 +442,8 @@ fn dot(w: &[u64], n: u64, p: u64, x: [u32; 4]) -> Short
     ensures { λ r. ⌜ r ≡ shortBy Builtin.Dot n 0 p x (valueAt (now (w .entry)) 20) (valueAt (now (w .entry)) 37) ⌝ }
 {
     let taken = (n == 2) & is_vector(p) & is_at(w, 20, p);
-    let s = scalar_at(p);
-    let sum = numeric::vectors::dot(s, count_at(p), x, cut_at(w, 20));
+    let s = shorts::scalar_at(p);
+    let sum = numeric::vectors::dot(s, shorts::count_at(p), x, cut_at(w, 20));
     given_one(taken, values::place_of(Kind::One(s)), sum)
 }
 
@@ -454,7 +451,7 @@ fn frexp(n: u64, p: u64, x: [u32; 4]) -> Short
     requires { ⌜ (1 ≤ p) × (p ≤ 20) ⌝ }
     ensures { λ r. ⌜ r ≡ shortBy Builtin.Frexp n 0 p x emptyValue emptyValue ⌝ }
 {
-    let s = scalar_at(p);
+    let s = shorts::scalar_at(p);
     given_two(
         (n == 1) & is_float(p),
         p,
@@ -476,8 +473,8 @@ fn bytes_at(p: u64) -> usize
     requires { ⌜ (1 ≤ p) × (p ≤ 20) ⌝ }
     ensures { λ r. ⌜ r ≡ byteSize (kindAt p) ⌝ }
 {
-    let n = count_at(p);
-    match scalar_at(p) {
+    let n = shorts::count_at(p);
+    match shorts::scalar_at(p) {
         Scalar::Boolean => 0,
         Scalar::I32 => n * 4,
         Scalar::U32 => n * 4,
@@ -575,29 +572,17 @@ fn short_of(which: Builtin, w: &[u64], p: u64, x: [u32; 4]) -> Short
     }
 }
 
-// ---- the words of an answer
+// ---- calls
 
-fn lane_at(i: usize, n: usize, x: [u32; 4]) -> u64
-    ensures { λ r. ⌜ r ≡ cond (ltb i 4) (cond (ltb i n) (getD x i 0) 0) 0 ⌝ }
+// The answer of a call, where the short way has it.
+pub fn answer(w: &[u64]) -> Short
+    ensures { λ r. ⌜ (r .taken ≡ true → answerBy r ≡ foldOf (callOf (now (w .entry)))) × (r .first ≤ 20) × (r .second ≤ 20) ⌝ }
 {
-    if i < 4 {
-        values::kept_lane(i, n, x[i])
-    } else {
-        0
+    if !is_short(w, 3) {
+        return given(false, 0, [0; 4]);
     }
-}
-
-fn put_short(out: &mut [u64], at: usize, p: u64, x: [u32; 4])
-    requires { ⌜ (at + 17 ≤ length (now out)) × (p ≤ 20) ⌝ }
-    ensures { λ _. ⌜ now (out .exit) ≡ put (now (out .entry)) at (wordsOf (longOf p x)) ⌝ }
-{
-    let n = count_at(p);
-    out[at] = p;
-    let mut i = 0;
-    while i < 16 {
-        out[at + 1 + i] = lane_at(i, n, x);
-        i += 1;
-    }
+    let p = w[3];
+    short_of(calls::builtin_at(w[0]), w, p, cut_at(w, 3))
 }
 
 // Writes the answer of a call where the short way has it. Whether it has.
@@ -608,17 +593,13 @@ pub fn fold(w: &[u64], out: &mut [u64]) -> bool
     if out.len() < 34 {
         return false;
     }
-    if !is_short(w, 3) {
-        return false;
-    }
-    let p = w[3];
-    let a = short_of(calls::builtin_at(w[0]), w, p, cut_at(w, 3));
+    let a = answer(w);
     if !a.taken {
         return false;
     }
     let x = a.lanes;
     let y = a.more;
-    put_short(out, 0, a.first, x);
-    put_short(out, 17, a.second, y);
+    shorts::put_words(out, 0, a.first, x);
+    shorts::put_words(out, 17, a.second, y);
     true
 }

@@ -34,4 +34,4 @@ normal m h l =
     moved e h = omega arith
 
 pub normal-magnitude-spec : {M : Type 1} → statement M
-normal-magnitude-spec = tie.close (tie.spec (λ c. search needs) (λ c. search needs) (λ c. normal _ (c .pre .0) (c .pre .1)))
+normal-magnitude-spec = tie.close (tie.spec (λ c. search needs) (λ c. search needs) (λ c. ((λ h l. normal _ h l), search needs)))

@@ -1,88 +1,98 @@
-use native.Mathlib.Nat.{zero-add}
-use mathlib.Core.Path.{ap, sym, _∙_}
-use mathlib.Core.List.{_++_}
-use Prim.Native.Nat.{_+_, _≤_}
-use native.Mathlib.Omega.{arith}
-use lib.ListN.{length, length-append}
-use Rattle.spelling.specs.Write.{put, textOf}
-use Rattle.spelling.proofs.Puts.{put-nil}
-use Rattle.lines.specs.Line.{secondText, lineAnswer}
-use Rattle.lines.proofs.Written.{made, both-made, room-left, in-refused, in-short, in-room, refusal-is, answer-is, answer-length}
+-- A line that is too long is refused by 7; else the words are those of its call, so that their answer is the line's. Assumes nothing.
+use Prim.Native.Nat.{ℕ, _<_, _≤_}
+use mathlib.Core.List.{List}
+use mathlib.Core.Path.{_≡_, ap, sym, _∙_}
+use borrow.Author.Tests.{lt-ltb, le-ltb}
+use lib.ListN.{length}
+use Rattle.builtins.specs.Fold.{refused, foldOf}
+use Rattle.lines.specs.Line.{callOf, lineOf}
 use borrow.Author.Needs.{needs}
 use Rattle.lines.proofs.fold_line.Statement.{statement}
 use Rattle.lines.proofs.fold_line.Tie as tie
 
-line-of-requires : tie.Need-line-of-requires
-line-of-requires c κs = search needs
+too-long : (line : List ℕ) → 400 < length line → lineOf line ≡ refused 7
+unfolding lineOf
+too-long line h = rw (lt-ltb 400 (length line) h)
 
-returns : tie.Need-returns
-unfolding lineAnswer
-returns c =
-    let a = c .before .before .before .before .args in
-    let r = refusal-is (a .line .now) (c .before .line-of .ensures) in
-    let w = in-refused (length (a .out .now)) (a .line .now) (λ e. c .if1 .taken (r ∙ e)) in
-    (rw (w .0, w .1, ← r), sym (ap (put (a .out .now) 0) (w .1) ∙ put-nil (a .out .now) 0))
+not-long : (line : List ℕ) → length line ≤ 400 → lineOf line ≡ foldOf (callOf line)
+unfolding lineOf
+not-long line h = rw (le-ltb 400 (length line) h)
 
-text-len-requires : tie.Need-text-len-requires
-text-len-requires c κs = search needs
+refused-requires : tie.Need-refused-requires
+refused-requires c κs = search needs
 
-second-len-requires : tie.Need-second-len-requires
-second-len-requires c κs = search needs
-
-add-if2 : tie.Need-add-if2
-add-if2 c = search needs
-
-returns-2 : tie.Need-returns-2
-unfolding lineAnswer
-returns-2 c =
-    let a = c .before .before .before .before .before .before .before .before .before .args in
-    let e = c .before .before .before .before .before .before .line-of .ensures in
-    let w = in-short (length (a .out .now)) (a .line .now) (sym (refusal-is (a .line .now) e) ∙ search needs)
-    (omega (arith, answer-length (a .line .now) e, c .before .before .text-len .ensures .0, c .before .second-len .ensures .0)) in
-    (rw (w .0, w .1), sym (ap (put (a .out .now) 0) (w .1) ∙ put-nil (a .out .now) 0))
-
-put-value-requires : tie.Need-put-value-requires
-put-value-requires c κs = search needs
-
-put-second-requires : tie.Need-put-second-requires
-put-second-requires c κs =
-    let o = c .before .before .before .before .before .before .before .before .before .before .before .before .before .before .args .out .now in
-    let a = c .before .before .before .before .before .before .before .before .before .before .before .line-of .result in
-    let room : 0 + length (textOf (a .first) ++ secondText (a .second)) ≤ length o
-    = omega (arith, length-append (textOf (a .first)) (secondText (a .second)), c .before .before .before .before .before .before .before .text-len .ensures .0, c .before .before .before .before .before .before .second-len .ensures .0) in
-    room-left o 0 (textOf (a .first)) (secondText (a .second)) room
-    (made o 0 (textOf (a .first)) (omega (arith, room, length-append (textOf (a .first)) (secondText (a .second)))) (c .before .before .before .put-value .ensures))
+put-answer-requires : tie.Need-put-answer-requires
+put-answer-requires c κs = search needs
 
 same-length : tie.Need-same-length
 same-length c = search needs
 
+returns : tie.Need-returns
+returns c =
+    let line = c .before .before .before .before .before .before .before .before .args .line .now in
+    c .before .before .put-answer .ensures line (c .before .before .before .refused .ensures ∙ sym (too-long line (c .before .before .before .before .before .if1 .taken)))
+
+slice-aggregate-put-call : tie.Need-slice-aggregate-put-call
+slice-aggregate-put-call c = search needs
+
+put-call-requires : tie.Need-put-call-requires
+put-call-requires c κs = search needs
+
+slice-aggregate-answer : tie.Need-slice-aggregate-answer
+slice-aggregate-answer c = search needs
+
+answer-requires : tie.Need-answer-requires
+answer-requires c κs = search needs
+
+put-short-requires : tie.Need-put-short-requires
+put-short-requires c κs = search needs
+
+slice-aggregate-call-of : tie.Need-slice-aggregate-call-of
+slice-aggregate-call-of c = search needs
+
+call-of-requires : tie.Need-call-of-requires
+call-of-requires c κs = search needs
+
+fold-requires : tie.Need-fold-requires
+fold-requires c κs = search needs
+
+put-answer-requires-2 : tie.Need-put-answer-requires-2
+put-answer-requires-2 c κs = search needs
+
+same-length-2 : tie.Need-same-length-2
+same-length-2 c = search needs
+
+returns-2 : tie.Need-returns-2
+returns-2 c =
+    let line = c .before .before .before .before .before .before .before .before .before .before .before .before .before .args .line .now in
+    c .before .before .put-short .ensures line (c .before .before .before .before .before .answer .ensures .0 (c .before .before .before .before .if2 .taken) ∙ ap foldOf (c .before .before .before .before .before .before .before .before .put-call .ensures) ∙ sym (not-long line (c .before .before .before .before .before .before .before .before .before .before .if1 .left)))
+
+same-length-3 : tie.Need-same-length-3
+same-length-3 c = search needs
+
 returns-3 : tie.Need-returns-3
-unfolding lineAnswer
 returns-3 c =
-    let g = c .before .before .before .before .before .before .before .before .before .before .before .before .before .before .before .before .before .args in
-    let o = g .out .now in
-    let a = c .before .before .before .before .before .before .before .before .before .before .before .before .before .before .line-of .result in
-    let e = c .before .before .before .before .before .before .before .before .before .before .before .before .before .before .line-of .ensures in
-    let room : 0 + length (textOf (a .first) ++ secondText (a .second)) ≤ length o
-    = omega (arith, length-append (textOf (a .first)) (secondText (a .second)), c .before .before .before .before .before .before .before .before .before .before .text-len .ensures .0, c .before .before .before .before .before .before .before .before .before .second-len .ensures .0) in
-    let w = in-room (length o) (g .line .now) (sym (refusal-is (g .line .now) e) ∙ search needs)
-    (omega (arith, answer-length (g .line .now) e, length-append (textOf (a .first)) (secondText (a .second)), room)) in
-    let m = both-made o 0 (textOf (a .first)) (secondText (a .second)) room
-    (made o 0 (textOf (a .first)) (omega (arith, room, length-append (textOf (a .first)) (secondText (a .second)))) (c .before .before .before .before .before .before .put-value .ensures)) (c .before .before .put-second .ensures) in
-    let x = answer-is (g .line .now) e in
-    (rw (w .0, w .1, ← x, m .0, zero-add), m .1 ∙ ap (put o 0) (x ∙ sym (w .1)))
+    let line = c .before .before .before .before .before .before .before .before .before .before .before .before .before .before .before .before .args .line .now in
+    c .before .before .put-answer2 .ensures line (c .before .before .before .fold .ensures ∙ ap foldOf (c .before .before .before .before .call-of .ensures ∙ c .before .before .before .before .before .before .before .before .before .before .before .put-call .ensures) ∙ sym (not-long line (c .before .before .before .before .before .before .before .before .before .before .before .before .before .if1 .left)))
 
 pub fold-line-spec : {M : Type 1} → statement M
 fold-line-spec =
     tie.close
     (tie.spec
-    line-of-requires
-    returns
-    text-len-requires
-    second-len-requires
-    add-if2
-    returns-2
-    put-value-requires
-    put-second-requires
+    refused-requires
+    put-answer-requires
     same-length
+    returns
+    slice-aggregate-put-call
+    put-call-requires
+    slice-aggregate-answer
+    answer-requires
+    put-short-requires
+    slice-aggregate-call-of
+    call-of-requires
+    fold-requires
+    put-answer-requires-2
+    same-length-2
+    returns-2
+    same-length-3
     returns-3)

@@ -1,6 +1,6 @@
 use mathlib.Core.List.{[], _∷_, _++_}
-use Rattle.lines.proofs.Written.{made, both-made, room-left}
-use Rattle.spelling.proofs.Puts.{put-nil}
+use Rattle.texts.proofs.Puts.{made, both-made, room-left}
+use Rattle.texts.proofs.Puts.{put-nil}
 use mathlib.Core.Path.{_≡_, sym, _∙_}
 use mathlib.Core.Bool.{true}
 use native.Mathlib.Omega.{arith}

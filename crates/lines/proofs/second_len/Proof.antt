@@ -1,4 +1,5 @@
 use native.Mathlib.Omega.{arith}
+use Rattle.spelling.proofs.Texts.{text-16}
 use Rattle.lines.specs.Line.{secondText}
 use borrow.Author.Needs.{needs}
 use Rattle.lines.proofs.second_len.Statement.{statement}
@@ -15,7 +16,7 @@ add-result c = search needs
 
 returns : tie.Need-returns
 unfolding secondText
-returns c = (rw (← c .before .before .is-type .ensures, c .before .if1 .taken) (omega (arith, c .text-len .ensures .0)), omega (arith, c .text-len .ensures .1))
+returns c = (rw (← c .before .before .is-type .ensures, c .before .if1 .taken) (omega (arith, c .text-len .ensures .0, text-16 (c .before .before .before .args .v) (search needs))), omega (arith, c .text-len .ensures .1))
 
 returns-2 : tie.Need-returns-2
 unfolding secondText

@@ -1,5 +1,5 @@
 -- One entry set is a write of one byte. Assumes nothing.
-use Rattle.spelling.proofs.Puts.{put-set}
+use Rattle.texts.proofs.Puts.{put-set}
 use borrow.Author.Needs.{needs}
 use Rattle.spelling.proofs.put_byte.Statement.{statement}
 use Rattle.spelling.proofs.put_byte.Tie as tie

@@ -1,5 +1,5 @@
 -- The invariant: what is to stand in the memory at the end, said over the memory as it is, stays the same with each digit. Assumes nothing.
-use Rattle.spelling.specs.Write.{put}
+use Rattle.texts.specs.Memory.{put}
 use Rattle.spelling.proofs.Texts.{length-hex}
 use Prim.Native.Nat.{_+_, _%_, _≤_}
 use native.Mathlib.Omega.{arith}

@@ -1,5 +1,5 @@
 -- A write of a byte and a write of the digits after it are one write. Assumes nothing.
-use Rattle.spelling.proofs.Puts.{then}
+use Rattle.texts.proofs.Puts.{then}
 use mathlib.Core.Path.{refl}
 use mathlib.Core.List.{[], _∷_}
 use native.Mathlib.Omega.{arith}

@@ -5,8 +5,10 @@ use native.Mathlib.Omega.{arith}
 use mathlib.Core.Path.{_≡_, refl, ap, sym, _∙_}
 use lib.ListN.{length, take, drop}
 use lib.Seq.{length-take-le, getD-take}
-use Rattle.spelling.specs.Write.{put, lanesText}
-use Rattle.spelling.proofs.Puts.{lane-room, lane-put, put-nil, lanes-end}
+use Rattle.texts.specs.Memory.{put}
+use Rattle.spelling.specs.Write.{lanesText}
+use Rattle.texts.proofs.Puts.{put-nil}
+use Rattle.spelling.proofs.LanePuts.{lane-room, lane-put, lanes-end}
 use Rattle.spelling.proofs.put_lanes.Statement.{statement}
 use Rattle.spelling.proofs.put_lanes.Tie as tie
 
@@ -25,16 +27,15 @@ loop-holds c = (search needs, refl, refl, refl)
 mul-put-lane : tie.Need-mul-put-lane Inv-loop μ-loop
 mul-put-lane c = search needs
 
-array-read-put-lane : tie.Need-array-read-put-lane Inv-loop μ-loop
-array-read-put-lane c = search needs
+shared-slice-read-put-lane : tie.Need-shared-slice-read-put-lane Inv-loop μ-loop
+shared-slice-read-put-lane c = search needs
 
 put-lane-requires : tie.Need-put-lane-requires Inv-loop μ-loop
 put-lane-requires c κs =
-    let a = c .before .before .before .before .args in
-    let l = c .before .before .loop in
-    let n : length (a .t5) ≡ 16 = search needs in
-    let e = length-take-le (a .n) (a .t5) (omega arith) in
-    let r = lane-room (take (a .n) (a .t5)) (l .k) (l .before) (a .w) (omega arith) in
+    let a = c .before .before .before .before .before .before .args in
+    let l = c .before .before .before .loop in
+    let e = length-take-le (a .n) (a .lanes .now) (omega arith) in
+    let r = lane-room (take (a .n) (a .lanes .now)) (l .k) (l .before) (a .w) (omega arith) in
     (omega (arith, r), search needs)
 
 add-k : tie.Need-add-k Inv-loop μ-loop
@@ -45,17 +46,16 @@ loop-less c = search needs
 
 loop-again : tie.Need-loop-again Inv-loop μ-loop
 loop-again c =
-    let a = c .before .before .before .before .before .before .before .args in
-    let l = c .before .before .before .before .before .loop in
+    let a = c .before .before .before .before .before .before .before .before .before .args in
+    let l = c .before .before .before .before .before .before .loop in
     let q = c .before .before .put-lane .ensures in
-    let n : length (a .t5) ≡ 16 = search needs in
-    let e = length-take-le (a .n) (a .t5) (omega arith) in
-    let r = lane-room (take (a .n) (a .t5)) (l .k) (l .before) (a .w) (omega arith) in (
+    let e = length-take-le (a .n) (a .lanes .now) (omega arith) in
+    let r = lane-room (take (a .n) (a .lanes .now)) (l .k) (l .before) (a .w) (omega arith) in (
       search needs,
       search needs,
       omega (arith, r),
       l .inv .3
-          ∙ lane-put (take (a .n) (a .t5)) (l .k) (l .before) (a .w) (omega arith) (l .out) (l .next) (omega (arith, r)) (sym (getD-take (a .n) (a .t5) (l .k) 0 (omega arith))) (q .1) (q .0),
+          ∙ lane-put (take (a .n) (a .lanes .now)) (l .k) (l .before) (a .w) (omega arith) (l .out) (l .next) (omega (arith, r)) (sym (getD-take (a .n) (a .lanes .now) (l .k) 0 (omega arith))) (q .1) (q .0),
     )
 
 same-length : tie.Need-same-length Inv-loop μ-loop
@@ -63,11 +63,10 @@ same-length c = search needs
 
 returns : tie.Need-returns Inv-loop μ-loop
 returns c =
-    let a = c .before .before .before .args in
+    let a = c .before .before .before .before .args in
     let l = c .before .loop in
-    let n : length (a .t5) ≡ 16 = search needs in
-    let e = length-take-le (a .n) (a .t5) (omega arith) in
-    let z = lanes-end (take (a .n) (a .t5)) (l .k) (l .before) (a .w) (omega arith) in
+    let e = length-take-le (a .n) (a .lanes .now) (omega arith) in
+    let z = lanes-end (take (a .n) (a .lanes .now)) (l .k) (l .before) (a .w) (omega arith) in
     (omega (arith, ap length z), sym (l .inv .3 ∙ rw z (put-nil (l .out) (l .next))))
 
 pub put-lanes-spec : {M : Type 1} → statement M
@@ -78,7 +77,7 @@ put-lanes-spec =
     μ-loop
     loop-holds
     mul-put-lane
-    array-read-put-lane
+    shared-slice-read-put-lane
     put-lane-requires
     add-k
     loop-less

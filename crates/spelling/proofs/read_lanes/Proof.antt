@@ -1,14 +1,13 @@
--- The invariant: reading the whole comes to reading what is left from i on into the lanes in hand; each way out of a turn is one step of the definition, or eight where eight digits are due and there. Assumes nothing.
+-- The invariant: reading the whole comes to reading what is left from i on into the lanes in hand; each way out of a turn is one step of the definition. Assumes nothing.
 use borrow.Author.Needs.{needs}
-use Prim.Native.Nat.{_+_, _*_, _-_, _<_, _≤_, _^_}
+use Prim.Native.Nat.{_+_, _-_, _<_, _≤_, _^_}
 use native.Mathlib.Omega.{arith}
 use native.Mathlib.Nat.{add-zero}
-use mathlib.Core.Bool.{true}
 use mathlib.Core.Path.{_≡_, ap, sym, _∙_}
-use lib.ListN.{take, drop, length, getD, length-set}
-use Rattle.spelling.specs.Hex.{digitOf, digitsBelow, number}
+use lib.ListN.{drop, length, getD, length-set}
+use Rattle.spelling.specs.Hex.{digitOf}
 use Rattle.spelling.specs.Read.{lanesAt, reading}
-use Rattle.spelling.proofs.Scan.{into, into-none, into-next, into-last, lane-long, lane-surplus, lane-next, digit-wrong, digit-next, all-due, digits-next, digits-fit, lane-short, lanes-few, lanes-all, grows, sixteen, one-at-least}
+use Rattle.spelling.proofs.Scan.{into, into-none, into-next, into-last, lane-long, lane-surplus, lane-next, digit-wrong, digit-next, lane-short, lanes-few, lanes-all, grows, sixteen, one-at-least}
 use Rattle.spelling.proofs.read_lanes.Statement.{statement}
 use Rattle.spelling.proofs.read_lanes.Tie as tie
 
@@ -28,63 +27,6 @@ loop-holds c =
     let a = c .before .before .args in
     (search needs, search needs, search needs, search needs, one-at-least _, rw add-zero (into-none (a .kind) (lanesAt (a .b) (a .w) (a .n) (a .w) (a .p) 0 (a .s .now))))
 
-eight-due-requires : tie.Need-eight-due-requires Inv-loop μ-loop
-eight-due-requires c κs = search needs
-
--- where eight digits are due and there: what the test says, and that the number with them fits the lane
-row : (c : tie.Then1 Inv-loop μ-loop)
-    → (c .before .before .before .before .loop .due ≡ 8) × (c .before .before .before .before .loop .i + 8 ≤ length (c .before .before .before .before .before .before .before .args .s .now)) × (digitsBelow (c .before .before .before .before .before .before .before .args .b) (take 8 (drop (c .before .before .before .before .loop .i) (c .before .before .before .before .before .before .before .args .s .now))) ≡ true)
-row c = all-due _ _ _ _ _ (sym (c .before .eight-due .ensures) ∙ c .if1 .taken)
-
-fits : (c : tie.Then1 Inv-loop μ-loop) → c .before .before .before .before .loop .lane * 16 ^ 8 + number 0 (take 8 (drop (c .before .before .before .before .loop .i) (c .before .before .before .before .before .before .before .args .s .now))) < 16 ^ (c .before .before .before .before .before .before .before .args .w)
-fits c =
-    let a = c .before .before .before .before .before .before .before .args in
-    let l = c .before .before .before .before .loop in
-    let d = row c in
-    digits-fit (a .b) (a .w) (l .lane) (a .s .now) (l .i) 8 (d .1) (d .2) (d .0) (omega arith) (omega arith) (l .inv .4)
-
-mul-lane : tie.Need-mul-lane Inv-loop μ-loop
-mul-lane c =
-    let f = fits c in
-    let q = sixteen (c .before .before .before .before .before .before .before .args .w) (omega arith) in
-    record { fits = omega arith }
-
-eight-value-requires : tie.Need-eight-value-requires Inv-loop μ-loop
-eight-value-requires c κs =
-    let d = row (c .before) in
-    search needs
-
-add-lane : tie.Need-add-lane Inv-loop μ-loop
-add-lane c =
-    let f = fits (c .before .before) in
-    let q = sixteen (c .before .before .before .before .before .before .before .before .before .args .w) (omega arith) in
-    record { fits = omega arith }
-
-add-i : tie.Need-add-i Inv-loop μ-loop
-add-i c =
-    let d = row (c .before .before) in
-    search needs
-
-loop-less : tie.Need-loop-less Inv-loop μ-loop
-loop-less c =
-    let d = row (c .before .before) in
-    search needs
-
-loop-again : tie.Need-loop-again Inv-loop μ-loop
-loop-again c =
-    let a = c .before .before .before .before .before .before .before .before .before .args in
-    let l = c .before .before .before .before .before .before .loop in
-    let d = row (c .before .before) in
-    let f = fits (c .before .before) in
-    let z : a .w - 0 ≡ a .w = omega arith in (
-      search needs,
-      search needs,
-      search needs,
-      search needs,
-      rw z (omega arith),
-      l .inv .5 ∙ ap (into (a .kind) (l .lanes) (l .done)) (digits-next (a .b) (a .w) (l .lane) (a .s .now) (l .i) 8 (d .1) (d .2) (l .left) (a .p) (d .0) (omega arith)),
-    )
-
 shared-slice-read-x : tie.Need-shared-slice-read-x Inv-loop μ-loop
 shared-slice-read-x c = search needs
 
@@ -96,9 +38,9 @@ wrong-at-requires c κs = search needs
 
 returns : tie.Need-returns Inv-loop μ-loop
 returns c =
-    let a = c .before .before .before .before .before .before .before .before .before .before .before .args in
-    let l = c .before .before .before .before .before .before .before .before .loop in
-    c .wrong-at .ensures ∙ sym (l .inv .5 ∙ ap (into (a .kind) (l .lanes) (l .done)) (lane-long (a .b) (a .w) (l .left) (l .due) (a .p) (l .lane) (a .s .now) (l .i) (search needs) (c .before .before .if2 .taken) (c .before .if3 .taken)))
+    let a = c .before .before .before .before .before .before .before .before .args in
+    let l = c .before .before .before .before .before .loop in
+    c .wrong-at .ensures ∙ sym (l .inv .5 ∙ ap (into (a .kind) (l .lanes) (l .done)) (lane-long (a .b) (a .w) (l .left) (l .due) (a .p) (l .lane) (a .s .now) (l .i) (search needs) (c .before .before .if1 .taken) (c .before .if2 .taken)))
 
 add-wrong-at-2 : tie.Need-add-wrong-at-2 Inv-loop μ-loop
 add-wrong-at-2 c = search needs
@@ -108,9 +50,9 @@ wrong-at-requires-2 c κs = search needs
 
 returns-2 : tie.Need-returns-2 Inv-loop μ-loop
 returns-2 c =
-    let a = c .before .before .before .before .before .before .before .before .before .before .before .before .args in
-    let l = c .before .before .before .before .before .before .before .before .before .loop in
-    c .wrong-at2 .ensures ∙ sym (l .inv .5 ∙ ap (into (a .kind) (l .lanes) (l .done)) (lane-surplus (a .b) (a .w) (l .left) (l .due) (a .p) (l .lane) (a .s .now) (l .i) (search needs) (c .before .before .before .if2 .taken) (c .before .before .if3 .left) (c .before .if4 .taken)))
+    let a = c .before .before .before .before .before .before .before .before .before .args in
+    let l = c .before .before .before .before .before .before .loop in
+    c .wrong-at2 .ensures ∙ sym (l .inv .5 ∙ ap (into (a .kind) (l .lanes) (l .done)) (lane-surplus (a .b) (a .w) (l .left) (l .due) (a .p) (l .lane) (a .s .now) (l .i) (search needs) (c .before .before .before .if1 .taken) (c .before .before .if2 .left) (c .before .if3 .taken)))
 
 mul-lanes : tie.Need-mul-lanes Inv-loop μ-loop
 mul-lanes c = search needs
@@ -124,23 +66,23 @@ add-done c = search needs
 sub-left : tie.Need-sub-left Inv-loop μ-loop
 sub-left c = search needs
 
-add-i-2 : tie.Need-add-i-2 Inv-loop μ-loop
-add-i-2 c = search needs
+add-i : tie.Need-add-i Inv-loop μ-loop
+add-i c = search needs
 
-loop-less-2 : tie.Need-loop-less-2 Inv-loop μ-loop
-loop-less-2 c = search needs
+loop-less : tie.Need-loop-less Inv-loop μ-loop
+loop-less c = search needs
 
-loop-again-2 : tie.Need-loop-again-2 Inv-loop μ-loop
-loop-again-2 c =
-    let a = c .before .before .before .before .before .before .before .before .before .before .before .args in
-    let l = c .before .before .before .before .before .before .before .before .loop in (
+loop-again : tie.Need-loop-again Inv-loop μ-loop
+loop-again c =
+    let a = c .before .before .before .before .before .before .before .before .args in
+    let l = c .before .before .before .before .before .loop in (
       search needs,
       simp length-set (search needs),
       search needs,
       search needs,
       one-at-least _,
       l .inv .5
-          ∙ ap (into (a .kind) (l .lanes) (l .done)) (lane-next (a .b) (a .w) (l .left) (l .due) (a .p) (l .lane) (a .s .now) (l .i) (search needs) (c .before .before .if2 .taken) (c .before .if3 .left) (c .if4 .left))
+          ∙ ap (into (a .kind) (l .lanes) (l .done)) (lane-next (a .b) (a .w) (l .left) (l .due) (a .p) (l .lane) (a .s .now) (l .i) (search needs) (c .before .before .if1 .taken) (c .before .if2 .left) (c .if3 .left))
           ∙ into-next (a .kind) (l .lanes) (l .done) (l .lane) (lanesAt (a .b) (a .w) (l .left - 1) (a .w) (a .p + (l .i + 1)) 0 (drop (l .i + 1) (a .s .now))) (omega arith),
     )
 
@@ -155,14 +97,14 @@ wrong-at-requires-3 c κs = search needs
 
 returns-3 : tie.Need-returns-3 Inv-loop μ-loop
 returns-3 c =
-    let a = c .before .before .before .before .before .before .before .before .before .before .before .before .before .args in
-    let l = c .before .before .before .before .before .before .before .before .before .before .loop in
-    c .wrong-at3 .ensures ∙ sym (l .inv .5 ∙ ap (into (a .kind) (l .lanes) (l .done)) (digit-wrong (a .b) (a .w) (l .left) (l .due) (a .p) (l .lane) (a .s .now) (l .i) (search needs) (c .before .before .before .before .if2 .left) (omega arith)))
+    let a = c .before .before .before .before .before .before .before .before .before .before .args in
+    let l = c .before .before .before .before .before .before .before .loop in
+    c .wrong-at3 .ensures ∙ sym (l .inv .5 ∙ ap (into (a .kind) (l .lanes) (l .done)) (digit-wrong (a .b) (a .w) (l .left) (l .due) (a .p) (l .lane) (a .s .now) (l .i) (search needs) (c .before .before .before .before .if1 .left) (omega arith)))
 
-mul-lane-2 : tie.Need-mul-lane-2 Inv-loop μ-loop
-mul-lane-2 c =
-    let a = c .before .before .before .before .before .before .before .before .before .before .before .before .args in
-    let l = c .before .before .before .before .before .before .before .before .before .loop in
+mul-lane : tie.Need-mul-lane Inv-loop μ-loop
+mul-lane c =
+    let a = c .before .before .before .before .before .before .before .before .before .args in
+    let l = c .before .before .before .before .before .before .loop in
     let q = sixteen (a .w - l .due + 1) (omega arith) in
     let g = grows (l .lane) 0 (a .w - l .due) (l .inv .4) (omega arith) in
     record { fits = omega arith }
@@ -170,10 +112,10 @@ mul-lane-2 c =
 wide-requires : tie.Need-wide-requires Inv-loop μ-loop
 wide-requires c κs = search needs
 
-add-lane-2 : tie.Need-add-lane-2 Inv-loop μ-loop
-add-lane-2 c =
-    let a = c .before .before .before .before .before .before .before .before .before .before .before .before .before .args in
-    let l = c .before .before .before .before .before .before .before .before .before .before .loop in
+add-lane : tie.Need-add-lane Inv-loop μ-loop
+add-lane c =
+    let a = c .before .before .before .before .before .before .before .before .before .before .args in
+    let l = c .before .before .before .before .before .before .before .loop in
     let q = sixteen (a .w - l .due + 1) (omega arith) in
     let g = grows (l .lane) (c .wide .result) (a .w - l .due) (l .inv .4) (omega arith) in
     record { fits = omega arith }
@@ -181,16 +123,16 @@ add-lane-2 c =
 sub-due : tie.Need-sub-due Inv-loop μ-loop
 sub-due c = search needs
 
-add-i-3 : tie.Need-add-i-3 Inv-loop μ-loop
-add-i-3 c = search needs
+add-i-2 : tie.Need-add-i-2 Inv-loop μ-loop
+add-i-2 c = search needs
 
-loop-less-3 : tie.Need-loop-less-3 Inv-loop μ-loop
-loop-less-3 c = search needs
+loop-less-2 : tie.Need-loop-less-2 Inv-loop μ-loop
+loop-less-2 c = search needs
 
-loop-again-3 : tie.Need-loop-again-3 Inv-loop μ-loop
-loop-again-3 c =
-    let a = c .before .before .before .before .before .before .before .before .before .before .before .before .before .args in
-    let l = c .before .before .before .before .before .before .before .before .before .before .loop in
+loop-again-2 : tie.Need-loop-again-2 Inv-loop μ-loop
+loop-again-2 c =
+    let a = c .before .before .before .before .before .before .before .before .before .before .args in
+    let l = c .before .before .before .before .before .before .before .loop in
     let d : c .wide .result ≡ digitOf (getD (a .s .now) (l .i) 0) = omega arith in
     let e : a .w - (l .due - 1) ≡ a .w - l .due + 1 = omega arith in (
       search needs,
@@ -198,7 +140,7 @@ loop-again-3 c =
       search needs,
       search needs,
       rw e (grows (l .lane) (c .wide .result) (a .w - l .due) (l .inv .4) (omega arith)),
-      l .inv .5 ∙ ap (into (a .kind) (l .lanes) (l .done)) (digit-next (a .b) (a .w) (l .left) (l .due) (a .p) (l .lane) (a .s .now) (l .i) (search needs) (c .before .before .before .before .if2 .left) (c .wide .result) d (omega arith)),
+      l .inv .5 ∙ ap (into (a .kind) (l .lanes) (l .done)) (digit-next (a .b) (a .w) (l .left) (l .due) (a .p) (l .lane) (a .s .now) (l .i) (search needs) (c .before .before .before .before .if1 .left) (c .wide .result) d (omega arith)),
     )
 
 add-wrong-at-4 : tie.Need-add-wrong-at-4 Inv-loop μ-loop
@@ -248,13 +190,6 @@ read-lanes-spec =
     μ-loop
     digit-table-requires
     loop-holds
-    eight-due-requires
-    mul-lane
-    eight-value-requires
-    add-lane
-    add-i
-    loop-less
-    loop-again
     shared-slice-read-x
     add-wrong-at
     wrong-at-requires
@@ -266,20 +201,20 @@ read-lanes-spec =
     array-write-lanes
     add-done
     sub-left
-    add-i-2
-    loop-less-2
-    loop-again-2
+    add-i
+    loop-less
+    loop-again
     digit-requires
     add-wrong-at-3
     wrong-at-requires-3
     returns-3
-    mul-lane-2
+    mul-lane
     wide-requires
-    add-lane-2
+    add-lane
     sub-due
-    add-i-3
-    loop-less-3
-    loop-again-3
+    add-i-2
+    loop-less-2
+    loop-again-2
     add-wrong-at-4
     wrong-at-requires-4
     returns-4

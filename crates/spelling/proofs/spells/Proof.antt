@@ -3,7 +3,7 @@ use Rattle.spelling.proofs.Spellings.{at-most-11, spelling-len, spellin
 use native.Mathlib.Omega.{arith}
 use mathlib.Core.Path.{_≡_, ap, _∙_}
 use lib.ListN.{length}
-use Rattle.spelling.specs.Text.{sameBytes}
+use Rattle.texts.specs.Text.{sameBytes}
 use borrow.Author.Needs.{needs}
 use Rattle.spelling.proofs.spells.Statement.{statement}
 use Rattle.spelling.proofs.spells.Tie as tie

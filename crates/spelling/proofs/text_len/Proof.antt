@@ -1,10 +1,7 @@
 -- The length is the sum of the lengths of the type and of the lanes. Assumes nothing.
 use native.Mathlib.Omega.{arith}
-use mathlib.Core.Path.{_≡_}
-use lib.ListN.{length, take}
-use lib.Seq.{length-take-le}
 use Rattle.spelling.proofs.Spellings.{spelling-len, at-most-11}
-use Rattle.spelling.proofs.Texts.{text-length, length-lanes}
+use Rattle.spelling.specs.Write.{textLength}
 use borrow.Author.Needs.{needs}
 use Rattle.spelling.proofs.text_len.Statement.{statement}
 use Rattle.spelling.proofs.text_len.Tie as tie
@@ -26,22 +23,18 @@ lanes-len-requires c κs = search needs
 
 add-result : tie.Need-add-result
 add-result c =
-    let k = c .before .before .before .before .before .before .args .v .kind in
+    let k = c .before .before .before .before .before .before .args .k in
     let t = c .before .before .before .before .before .spelling-of in
     record { fits = omega (arith, spelling-len k (t .result) (t .ensures), at-most-11 k, c .before .lanes-len .ensures .1) }
 
 returns : tie.Need-returns
+unfolding textLength
 returns c =
-    let v = c .before .before .before .before .before .before .args .v in
+    let k = c .before .before .before .before .before .before .args .k in
     let t = c .before .before .before .before .before .spelling-of in
-    let n = c .before .before .before .before .lane-count in
-    let w = c .before .before .digit-count in
-    let front = spelling-len (v .kind) (t .result) (t .ensures) in
-    let len : length (v .lanes) ≡ 16 = search needs in
-    let some = length-take-le (n .result) (v .lanes) (omega (arith, n .ensures .1)) in
-    let rest = length-lanes 58 (w .result) (take (n .result) (v .lanes)) in (
-      rw (text-length v (n .ensures .0) (c .before .before .before .scalar-of .ensures) (w .ensures .0), rest, some, ← front, c .before .lanes-len .ensures .0),
-      omega (arith, front, at-most-11 (v .kind), c .before .lanes-len .ensures .1),
+    let front = spelling-len k (t .result) (t .ensures) in (
+      rw (front, c .before .lanes-len .ensures .0, c .before .before .digit-count .ensures .0, c .before .before .before .scalar-of .ensures, c .before .before .before .before .lane-count .ensures .0),
+      omega (arith, front, at-most-11 k, c .before .lanes-len .ensures .1),
     )
 
 pub text-len-spec : {M : Type 1} → statement M

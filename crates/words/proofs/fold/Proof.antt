@@ -6,9 +6,10 @@ use mathlib.Core.Path.{_≡_, ap, sym, _∙_}
 use native.Mathlib.Omega.{arith}
 use lib.ListN.{length}
 use Rattle.builtins.specs.Fold.{foldOf}
-use Rattle.spelling.specs.Write.{put}
-use Rattle.spelling.proofs.Puts.{put-nil, then}
-use Rattle.words.specs.Words.{wordsOf, writtenIn}
+use Rattle.texts.specs.Memory.{put}
+use Rattle.texts.proofs.Puts.{put-nil, then}
+use Rattle.shorts.specs.Shorts.{wordsOf}
+use Rattle.words.specs.Words.{writtenIn}
 use Rattle.words.proofs.Given.{told-refused, told-short, told-answer}
 use borrow.Author.Needs.{needs}
 use Rattle.words.proofs.fold.Statement.{statement}

@@ -1,6 +1,6 @@
 -- One answer for each side of the test of the type field. Assumes nothing.
 use mathlib.Core.Path.{_∙_}
-use Rattle.words.proofs.ByPlace.{inside}
+use Rattle.shorts.proofs.ByPlace.{inside}
 use borrow.Author.Needs.{needs}
 use Rattle.words.proofs.short.bitcast.Statement.{statement}
 use Rattle.words.proofs.short.bitcast.Tie as tie

@@ -3,7 +3,7 @@ use mathlib.Core.Path.{_∙_}
 use native.Mathlib.Omega.{arith}
 use lib.ListN.{getD}
 use Rattle.values.specs.Value.{kindAt, emptyValue}
-use Rattle.words.proofs.ByPlace.{other-place}
+use Rattle.shorts.proofs.ByPlace.{other-place}
 use Rattle.words.proofs.Standing.{not-there, there}
 use borrow.Author.Needs.{needs}
 use Rattle.words.proofs.short.condition.Statement.{statement}

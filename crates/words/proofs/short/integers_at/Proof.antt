@@ -2,7 +2,7 @@
 use Prim.Native.Nat.{ℕ, _*_, _-_}
 use mathlib.Core.Path.{ap, _∙_}
 use native.Mathlib.Omega.{arith}
-use Rattle.words.proofs.ByPlace.{count-at, integers}
+use Rattle.shorts.proofs.ByPlace.{count-at, integers}
 use borrow.Author.Needs.{needs}
 use Rattle.words.proofs.short.integers_at.Statement.{statement}
 use Rattle.words.proofs.short.integers_at.Tie as tie

@@ -2,7 +2,7 @@
 use mathlib.Core.Path.{sym}
 use lib.ListN.{getD}
 use Rattle.values.proofs.Formed.{empty-not-formed}
-use Rattle.words.proofs.ByPlace.{inside, outside}
+use Rattle.shorts.proofs.ByPlace.{inside, outside}
 use Rattle.words.proofs.Standing.{not-there, no-condition, condition-there}
 use borrow.Author.Needs.{needs}
 use Rattle.words.proofs.short.is_condition.Statement.{statement}

@@ -2,7 +2,8 @@
 use mathlib.Core.Path.{refl, _∙_}
 use Rattle.builtins.specs.Halves.{isHalf}
 use Rattle.values.specs.Value.{scalarOf, kindAt}
-use Rattle.words.proofs.ByPlace.{member, same-at}
+use Rattle.shorts.proofs.ByPlace.{same-at}
+use Rattle.words.proofs.TakenByPlace.{member}
 use borrow.Author.Needs.{needs}
 use Rattle.words.proofs.short.is_half.Statement.{statement}
 use Rattle.words.proofs.short.is_half.Tie as tie

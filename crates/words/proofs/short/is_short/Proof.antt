@@ -2,7 +2,7 @@
 use mathlib.Core.Path.{sym, _∙_}
 use lib.ListN.{getD}
 use Rattle.values.proofs.Formed.{empty-not-formed}
-use Rattle.words.proofs.ByPlace.{inside, outside}
+use Rattle.shorts.proofs.ByPlace.{inside, outside}
 use Rattle.words.proofs.Standing.{not-there, not-short, short-there}
 use borrow.Author.Needs.{needs}
 use Rattle.words.proofs.short.is_short.Statement.{statement}

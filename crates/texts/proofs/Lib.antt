@@ -1,0 +1,3 @@
+pub mod FirstPlace
+pub mod Lookup
+pub mod Puts
