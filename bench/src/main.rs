@@ -1,13 +1,15 @@
-//! bench LINES FOLDLINES RUSTLINES [WORD..]: folds the lines of a file by both sides and prints how fast each is.
+//! bench LINES FOLDLINES RUSTLINES FOLDSORT [WORD..]: folds the lines of a file by both sides and prints how fast each
+//! is; then compares values and sorts a listing by both.
 //!
-//! LINES is a file of lines, FOLDLINES and RUSTLINES are the two programs; WORDs, if any, are put before each program,
-//! to run it under an emulator. Both sides take the same inputs in turns, and of each the fastest turn counts: what
+//! LINES is a file of lines, FOLDLINES, RUSTLINES and FOLDSORT are the programs; WORDs, if any, are put before each, to
+//! run it under an emulator. Both sides take the same inputs in turns, and of each the fastest turn counts: what
 //! else the machine does only ever slows a turn down.
 
 mod child;
 
-use chanrelout::{fold_words, Builtin, ANSWER_WORDS};
+use chanrelout::{fold_line, fold_words, Builtin, ANSWER_WORDS, LONGEST_LISTING, MOST_LINES};
 use std::{
+    cmp::Ordering,
     env, fs,
     hint::black_box,
     time::{Duration, Instant},
@@ -17,9 +19,9 @@ const TURNS: usize = 9;
 
 fn main() {
     let words: Vec<String> = env::args().collect();
-    let (lines, foldlines, rustlines, emulator) = match &words[..] {
-        [_, lines, foldlines, rustlines, emulator @ ..] => (lines, foldlines, rustlines, emulator),
-        _ => panic!("usage: bench LINES FOLDLINES RUSTLINES [WORD..]"),
+    let (lines, foldlines, rustlines, foldsort, emulator) = match &words[..] {
+        [_, lines, foldlines, rustlines, foldsort, emulator @ ..] => (lines, foldlines, rustlines, foldsort, emulator),
+        _ => panic!("usage: bench LINES FOLDLINES RUSTLINES FOLDSORT [WORD..]"),
     };
     let text = fs::read(lines).expect("the file of lines");
     rustlines::quiet_panics();
@@ -27,6 +29,8 @@ fn main() {
     records(&text);
     programs(&text, foldlines, rustlines, emulator);
     halves();
+    orders();
+    listings(&text, foldsort, emulator);
 }
 
 /// Two sides in turns; the fastest turn of each.
@@ -143,13 +147,7 @@ extern "C" fn crate_f16_to_f32(bits: u16) -> u32 {
 
 fn halves() {
     const COUNT: usize = 1 << 22;
-    let mut state = 0x9E37_79B9_7F4A_7C15u64;
-    let mut random = move || {
-        state ^= state << 13;
-        state ^= state >> 7;
-        state ^= state << 17;
-        (state >> 16) as u32
-    };
+    let mut random = random_bits();
     let any: Vec<u32> = (0..COUNT).map(|_| random()).collect();
     // from 2^-25 to 2^17, where a conversion has to round
     let near: Vec<u32> = any.iter().map(|bits| bits & 0x807F_FFFF | (102 + bits % 43) << 23).collect();
@@ -175,4 +173,84 @@ fn over<A: Copy, B>(all: &[A], convert: Conversion<A, B>) -> Duration {
             black_box(unsafe { convert(black_box(x)) });
         }
     })
+}
+
+fn random_bits() -> impl FnMut() -> u32 {
+    let mut state = 0x9E37_79B9_7F4A_7C15u64;
+    move || {
+        state ^= state << 13;
+        state ^= state >> 7;
+        state ^= state << 17;
+        (state >> 16) as u32
+    }
+}
+
+// ---- the order of two values of f32 lanes: the library's comparison of words against `f32::total_cmp`, lane by lane
+
+extern "C" {
+    fn chanrelout_compare(a: *const u64, a_len: usize, b: *const u64, b_len: usize) -> u8;
+}
+
+/// A value's words, and its lanes as the Rust has them.
+type Compared = ([u64; 17], Vec<f32>);
+
+fn orders() {
+    // the numbers of f32, vec4<f32> and mat4x4<f32>
+    for (what, number, lanes) in [("compare f32", 4, 1), ("compare vec4<f32>", 19, 4), ("compare mat4x4<f32>", 29, 16)] {
+        let mut random = random_bits();
+        // only the last lane tells two values apart, so that every lane is looked at
+        let values: Vec<Compared> = (0..FEW)
+            .map(|_| {
+                let mut words = [0; 17];
+                words[0] = number;
+                words[1..=lanes].fill(0x3F80_0000);
+                words[lanes] = random().into();
+                (words, words[1..=lanes].iter().map(|&lane| f32::from_bits(lane as u32)).collect())
+            })
+            .collect();
+        let rounds = TURN / FEW;
+        let times = in_turns(|| compared(&values, rounds, ours), || compared(&values, rounds, theirs));
+        report(what, rounds * (FEW - 1), times);
+    }
+}
+
+fn ours((a, _): &Compared, (b, _): &Compared) -> bool {
+    // SAFETY: each pointer and length are those of a slice.
+    unsafe { chanrelout_compare(a.as_ptr(), a.len(), b.as_ptr(), b.len()) == 0 }
+}
+
+fn theirs((_, a): &Compared, (_, b): &Compared) -> bool {
+    let lanes = a.iter().zip(b).map(|(a, b)| a.total_cmp(b));
+    lanes.fold(Ordering::Equal, Ordering::then) == Ordering::Less
+}
+
+fn compared(values: &[Compared], rounds: usize, before: impl Fn(&Compared, &Compared) -> bool) -> Duration {
+    timed(|| {
+        for two in (0..rounds).flat_map(|_| values.windows(2)) {
+            black_box(before(black_box(&two[0]), black_box(&two[1])));
+        }
+    })
+}
+
+// ---- a listing in order, by foldsort and by the system's sort, which sorts by bytes
+
+fn listings(text: &[u8], foldsort: &str, emulator: &[String]) {
+    const TIMES: usize = 50;
+    let mut listing = Vec::new();
+    let mut count = 0;
+    for line in text.split(|&byte| byte == b'\n') {
+        match fold_line(line) {
+            Ok(answer) if listing.len() + answer.len() < LONGEST_LISTING && count < MOST_LINES => {
+                listing.extend(answer.bytes().chain([b'\n']));
+                count += 1;
+            }
+            _ => continue,
+        }
+    }
+    let by_bytes = ["env", "LC_ALL=C"].map(String::from);
+    let times = in_turns(
+        || (0..TIMES).map(|_| child::time(emulator, foldsort, &listing)).sum(),
+        || (0..TIMES).map(|_| child::time(&by_bytes, "sort", &listing)).sum(),
+    );
+    report(&format!("sort {count} lines"), TIMES * count, times);
 }

@@ -18,7 +18,7 @@ extern "C" {
 /* ---- refusals
 
    A call is answered, or refused with one of these numbers: the first that applies in the order 7, 1, 2, 3, 4, 5, 6,
-   8. A refusal leaves lent memory as it was. */
+   8; a listing in the order 15, 17, 14, 8. A refusal leaves lent memory as it was. */
 
 enum chanrelout_refusal {
     CHANRELOUT_ANSWERED = 0,
@@ -29,7 +29,10 @@ enum chanrelout_refusal {
     CHANRELOUT_TYPES_DIFFER = 5,    /* each argument alone is taken, but not together */
     CHANRELOUT_SIZES_DIFFER = 6,    /* bitcast between types of different sizes */
     CHANRELOUT_LINE_TOO_LONG = 7,   /* the line has more than 400 bytes */
-    CHANRELOUT_NO_ROOM = 8          /* the lent memory is too short for the answer */
+    CHANRELOUT_NO_ROOM = 8,         /* the lent memory is too short for the answer */
+    CHANRELOUT_NO_ANSWER_LINE = 14, /* a line of the listing is no answer line */
+    CHANRELOUT_LISTING_TOO_LONG = 15, /* the listing has more than 32,768 bytes */
+    CHANRELOUT_TOO_MANY_LINES = 17  /* the listing has more than 512 lines */
 };
 
 /* ---- lines: a call spelled as text
@@ -150,6 +153,55 @@ enum chanrelout_builtin {
     CHANRELOUT_UNPACK2X16UNORM,
     CHANRELOUT_UNPACK2X16FLOAT
 };
+
+/* ---- the one order of values: docs/ORDER.md. First by type, in the order of their numbers, then lane by lane from lane
+   0: bools and integers by number, floats by IEEE 754's totalOrder, so that -0 stands before +0 and every NaN has its
+   place. Two values are the same only where type and lanes are. */
+
+enum chanrelout_order {
+    CHANRELOUT_BEFORE = 0,
+    CHANRELOUT_SAME = 1,
+    CHANRELOUT_AFTER = 2,
+    CHANRELOUT_ILL_FORMED = 3 /* a value is not well formed, so that there is no order */
+};
+
+/* a, b         the words of a struct chanrelout_value each; words past the 17th are not looked at, and fewer are no
+                value.
+   Answers a number of enum chanrelout_order: how a stands to b. */
+
+uint8_t chanrelout_compare(const uint64_t *a, size_t a_len, const uint64_t *b, size_t b_len);
+
+/* The same for two records. */
+static inline enum chanrelout_order chanrelout_order_of(const struct chanrelout_value *a,
+                                                        const struct chanrelout_value *b)
+{
+    return (enum chanrelout_order)chanrelout_compare((const uint64_t *)a, sizeof *a / 8, (const uint64_t *)b,
+                                                     sizeof *b / 8);
+}
+
+/* listing      answer lines as chanrelout_line gives them, or `refused`, tab, number and perhaps tab, place, each ended
+                by a newline; the last may go without.
+   listing_len  its bytes, at most CHANRELOUT_LONGEST_LISTING.
+   index        where the numbers of the lines, from 1, are written in order: by their first values, a lone value before
+                a frexp pair, then by the second values, refused lines last, ties by number. It must not overlap listing.
+   index_len    how many entries it has. CHANRELOUT_MOST_LINES are always enough.
+   Answers a number that chanrelout_sort_refusal and chanrelout_sort_count take apart. Entries past the last line stay as
+   they were; of a refused listing, all of them do. */
+
+#define CHANRELOUT_LONGEST_LISTING 32768
+#define CHANRELOUT_MOST_LINES 512
+
+uint64_t chanrelout_sort(const uint8_t *listing, size_t listing_len, uint16_t *index, size_t index_len);
+
+static inline enum chanrelout_refusal chanrelout_sort_refusal(uint64_t answer)
+{
+    return (enum chanrelout_refusal)(answer >> 32);
+}
+
+static inline size_t chanrelout_sort_count(uint64_t answer)
+{
+    return (size_t)(answer & 0xFFFFFFFF);
+}
 
 /* ---- half conversion, both sides as bits: to the nearest, ties to the even one, and exact on the way back */
 

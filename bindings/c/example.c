@@ -1,4 +1,4 @@
-/* Packs a colour, unpacks it again and folds a line: ./run builds and runs this. */
+/* Packs a colour, unpacks it again, folds a line and puts values and lines in order: ./run builds and runs this. */
 
 #include "chanrelout.h"
 
@@ -58,5 +58,21 @@ int main(void)
     if (chanrelout_line_refusal(answer) != CHANRELOUT_ANSWERED)
         return 1;
     printf("%-16s %.*s\n", "frexp", (int)chanrelout_line_length(answer), out);
+
+    /* Every two values stand in one order, a NaN too. */
+    const struct chanrelout_value one = {.type = CHANRELOUT_F32, .lanes = {bits_of(1.0f)}};
+    const struct chanrelout_value nan = {.type = CHANRELOUT_F32, .lanes = {0x7FC00000}};
+    printf("%-16s %d %d\n", "1 and NaN", chanrelout_order_of(&one, &nan), chanrelout_order_of(&nan, &one));
+
+    /* Answer lines in that order, by their numbers. */
+    const char *listing = "f32:7FC00000\nrefused\t3\nf32:80000000\nf32:00000000\n";
+    uint16_t index[CHANRELOUT_MOST_LINES];
+    answer = chanrelout_sort((const uint8_t *)listing, strlen(listing), index, CHANRELOUT_MOST_LINES);
+    if (chanrelout_sort_refusal(answer) != CHANRELOUT_ANSWERED)
+        return 1;
+    printf("%-16s", "lines in order");
+    for (size_t i = 0; i < chanrelout_sort_count(answer); i++)
+        printf(" %d", index[i]);
+    putchar('\n');
     return 0;
 }

@@ -2,7 +2,7 @@
 //! are proved to meet their statements. What each builtin takes and gives is document 01 of that repository.
 //!
 //! ```
-//! use chanrelout::{fold, fold_line, Builtin, Refusal, Value};
+//! use chanrelout::{fold, fold_line, sort_listing, Builtin, Refusal, Value};
 //!
 //! let colour = Value::from([1.0f32, 0.5, 0.0, -1.0]);
 //! let packed = fold(Builtin::Pack4x8unorm, &[colour])?.first;
@@ -11,10 +11,14 @@
 //!
 //! assert_eq!(fold(Builtin::Min, &[Value::from(1), Value::from(1.0f32)]), Err(Refusal::TypesDiffer));
 //! assert_eq!(fold_line(b"frexp\tf32:00000001")?, "f32:3F000000\ti32:FFFFFF6C");
+//!
+//! // One order, NaNs and both zeros included.
+//! assert!(Value::from(-0.0f32) < Value::from(0.0f32) && Value::from(f32::INFINITY) < Value::from(f32::NAN));
+//! assert_eq!(sort_listing(b"f32:7FC00000\nrefused\t3\nf32:3F800000\n")?, [3, 1, 2]);
 //! # Ok::<(), Refusal>(())
 //! ```
 //!
-//! Nothing here allocates but [`fold_line`] and what prints. All of it may be called from several threads at once.
+//! Nothing here allocates but [`fold_line`], [`sort_listing`] and what prints. All of it may be called from several threads at once.
 
 #![warn(missing_docs)]
 
@@ -22,12 +26,14 @@ mod builtin;
 mod call;
 mod ffi;
 mod line;
+mod listing;
 mod refusal;
 mod value;
 
 pub use builtin::Builtin;
 pub use call::{fold, fold_words, Answer, Call, ANSWER_WORDS, CALL_WORDS};
 pub use line::{fold_line, fold_line_into, LONGEST_ANSWER};
+pub use listing::{sort_listing, sort_listing_into, LONGEST_LISTING, MOST_LINES};
 pub use refusal::Refusal;
 pub use value::{BadValue, Scalar, Size, Type, Value, Width};
 

@@ -1,7 +1,8 @@
 use std::{error::Error, fmt};
 
-/// Why a call is not answered. The discriminant is document 01's number; of several reasons the first in the order 7,
-/// 1, 2, 3, 4, 5, 6, 8 is given.
+/// Why a call is not answered, or a listing not sorted. The discriminant is the number of documents 01 and 02; of
+/// several reasons the first in the order 7, 1, 2, 3, 4, 5, 6, 8 is given of a call, and in the order 15, 17, 14, 8 of a
+/// listing.
 #[derive(Clone, Copy, Debug, PartialEq, Eq, Hash)]
 #[repr(u8)]
 pub enum Refusal {
@@ -21,10 +22,16 @@ pub enum Refusal {
     LineTooLong = 7,
     /// The memory lent for the answer is too short.
     NoRoom = 8,
+    /// A line of the listing is no answer line.
+    NoAnswerLine = 14,
+    /// The listing has more than 32,768 bytes.
+    ListingTooLong = 15,
+    /// The listing has more than 512 lines.
+    TooManyLines = 17,
 }
 
 impl Refusal {
-    const ALL: [Refusal; 8] = [
+    const ALL: [Refusal; 11] = [
         Refusal::UnknownBuiltin,
         Refusal::ArgumentCount,
         Refusal::BadValue,
@@ -33,16 +40,19 @@ impl Refusal {
         Refusal::SizesDiffer,
         Refusal::LineTooLong,
         Refusal::NoRoom,
+        Refusal::NoAnswerLine,
+        Refusal::ListingTooLong,
+        Refusal::TooManyLines,
     ];
 
-    /// Document 01's number.
+    /// Its number in documents 01 and 02.
     pub fn number(self) -> u8 {
         self as u8
     }
 
-    /// The refusal of a number; none for 0, which is no refusal, and above 8.
+    /// The refusal of a number; none for 0, which is no refusal, and for a number that no refusal has.
     pub fn from_number(number: u8) -> Option<Refusal> {
-        Refusal::ALL.get(usize::from(number).checked_sub(1)?).copied()
+        Refusal::ALL.iter().copied().find(|refusal| refusal.number() == number)
     }
 }
 
@@ -57,6 +67,9 @@ impl fmt::Display for Refusal {
             Refusal::SizesDiffer => "bitcast's two types have different sizes",
             Refusal::LineTooLong => "the line has more than 400 bytes",
             Refusal::NoRoom => "the memory lent for the answer is too short",
+            Refusal::NoAnswerLine => "a line of the listing is no answer line",
+            Refusal::ListingTooLong => "the listing has more than 32,768 bytes",
+            Refusal::TooManyLines => "the listing has more than 512 lines",
         })
     }
 }

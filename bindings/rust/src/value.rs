@@ -1,4 +1,5 @@
-use std::{error::Error, fmt, str::FromStr};
+use crate::ffi;
+use std::{cmp::Ordering, error::Error, fmt, str::FromStr};
 
 /// A value's words: the number of its type and 16 lanes.
 type Words = [u64; VALUE_WORDS];
@@ -152,7 +153,9 @@ impl FromStr for Type {
 }
 
 /// A value: a type and its lanes as bits, lane 0 first, a matrix column by column. It is always well formed. Two are
-/// equal where their types and bits are, so that a NaN equals itself and 0 is not -0.
+/// equal where their types and bits are, so that a NaN equals itself and 0 is not -0. Values stand in one order, that
+/// of the repository's docs/ORDER.md: by type, in the order of [`Type::all`], then lane by lane from lane 0, floats by
+/// IEEE 754's totalOrder.
 #[derive(Clone, Copy, Debug, PartialEq, Eq, Hash)]
 pub struct Value {
     ty: Type,
@@ -221,6 +224,25 @@ impl Value {
             *lane = word as u32;
         }
         Some(Value { ty, lanes })
+    }
+}
+
+impl Ord for Value {
+    fn cmp(&self, other: &Value) -> Ordering {
+        let (left, right) = (self.words(), other.words());
+        // SAFETY: each pointer and length are those of a slice.
+        match unsafe { ffi::chanrelout_compare(left.as_ptr(), left.len(), right.as_ptr(), right.len()) } {
+            0 => Ordering::Less,
+            1 => Ordering::Equal,
+            2 => Ordering::Greater,
+            number => unreachable!("well-formed values compare as {number}"),
+        }
+    }
+}
+
+impl PartialOrd for Value {
+    fn partial_cmp(&self, other: &Value) -> Option<Ordering> {
+        Some(self.cmp(other))
     }
 }
 

@@ -1,39 +1,18 @@
 //! Holds this crate to the program foldlines, on the lines that the repository's gate replays through it.
 
-use chanrelout::{fold_line, fold_line_into, Answer, Builtin, Call, Refusal, Type, Value, LONGEST_ANSWER};
-use std::{
-    fs::{self, File},
-    path::{Path, PathBuf},
-    process::{Command, Stdio},
-};
+mod common;
 
-fn root() -> PathBuf {
-    Path::new(env!("CARGO_MANIFEST_DIR")).join("../..")
-}
+use chanrelout::{fold_line, fold_line_into, Answer, Builtin, Call, Refusal, Type, Value, LONGEST_ANSWER};
+use common::{printed_by, split, stored};
 
 /// The lines, each with what foldlines prints for it.
 fn answered_lines() -> Vec<(Vec<u8>, Vec<u8>)> {
-    let path = root().join("crates/foldlines/stdin");
-    let foldlines = Command::new(root().join("run"))
-        .arg("foldlines")
-        .stdin(File::open(&path).unwrap())
-        .stderr(Stdio::inherit())
-        .output()
-        .unwrap();
-    assert!(foldlines.status.success());
-    let lines = split(&fs::read(&path).unwrap());
-    let answers = split(&foldlines.stdout);
+    let input = stored("foldlines");
+    let lines = split(&input);
+    let answers = split(&printed_by("foldlines", &input));
     assert_eq!(lines.len(), answers.len());
     assert!(lines.len() > 10_000);
     lines.into_iter().zip(answers).collect()
-}
-
-fn split(text: &[u8]) -> Vec<Vec<u8>> {
-    let mut lines: Vec<_> = text.split(|&byte| byte == b'\n').map(<[u8]>::to_vec).collect();
-    if lines.last().map_or(false, Vec::is_empty) {
-        lines.pop();
-    }
-    lines
 }
 
 /// As foldlines prints it.

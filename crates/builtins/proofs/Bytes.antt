@@ -30,7 +30,7 @@ of-append b (x ∷ xs) ys t =
     let r = of-append b xs ys (h .1) in
     (and (h .0) (r .0), r .1)
 
-below-split : (b n : ℕ) (xs : List ℕ) → below b xs ≡ true → (below b (take n xs) ≡ true) × (below b (drop n xs) ≡ true)
+pub below-split : (b n : ℕ) (xs : List ℕ) → below b xs ≡ true → (below b (take n xs) ≡ true) × (below b (drop n xs) ≡ true)
 below-split b n xs t = of-append b (take n xs) (drop n xs) (rw (take-append-drop n xs) t)
 
 -- ---- a lane

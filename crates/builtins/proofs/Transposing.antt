@@ -21,7 +21,7 @@ up-to-end s (suc n) =
     let e : suc s + n ≡ s + suc n = omega arith in
     ap (_∷_ s) (up-to-end (suc s) n ∙ ap (λ (x : ℕ). upTo (suc s) n ++ (x ∷ [])) e)
 
-mapped-length : (f : ℕ → ℕ) (s n : ℕ) → length (map f (upTo s n)) ≡ n
+pub mapped-length : (f : ℕ → ℕ) (s n : ℕ) → length (map f (upTo s n)) ≡ n
 mapped-length f s zero = refl
 mapped-length f s (suc n) = ap suc (mapped-length f (suc s) n)
 

@@ -7,8 +7,10 @@ ghost use lib.ListN.{length};
 ghost use Rattle.half.specs.Convert.{halfOf, singleOf};
 ghost use Rattle.texts.specs.Memory.{put};
 ghost use Rattle.lines.specs.Line as text;
-ghost use Rattle.words.specs.Words.{refusalIn, writtenIn};
-ghost use Rattle.chanrelout.specs.Number.{lineNumber};
+ghost use Rattle.words.specs.Words.{valueAt, refusalIn, writtenIn};
+ghost use Rattle.order.specs.Order as order;
+ghost use Rattle.sorting.specs.Sorting.{sortedOf, indexIn};
+ghost use Rattle.chanrelout.specs.Number.{lineNumber, sortNumber};
 
 // Folds a line of 01 into its answer, without newlines. Answers the refusal's number times 2^32, or the length of what was written.
 #[no_mangle]
@@ -27,6 +29,27 @@ pub extern "C" fn chanrelout_call(call: &[u64], out: &mut [u64]) -> u8
         × (now (out .exit) ≡ put (now (out .entry)) 0 (writtenIn (length (now (out .entry))) (now (call .entry)))) ⌝ }
 {
     words::fold(call, out)
+}
+
+// How the value of the words a stands to that of b in the one order: 0 before, 1 the same, 2 after, 3 where one is not well formed.
+#[no_mangle]
+pub extern "C" fn chanrelout_compare(a: &[u64], b: &[u64]) -> u8
+    ensures { λ r. ⌜ r ≡ order.number (order.compareOf (valueAt (now (a .entry)) 0) (valueAt (now (b .entry)) 0)) ⌝ }
+{
+    let v = words::long::value_at(a, 0);
+    let w = words::long::value_at(b, 0);
+    let c = order::compare(v, w);
+    order::number_of(c)
+}
+
+// Writes the numbers of a listing's lines, from 1, in order. Answers the refusal's number times 2^32, or how many lines there are.
+#[no_mangle]
+pub extern "C" fn chanrelout_sort(listing: &[u8], index: &mut [u16]) -> u64
+    ensures { λ r. ⌜ (r ≡ sortNumber (sortedOf (length (now (index .entry))) (now (listing .entry))))
+        × (now (index .exit) ≡ put (now (index .entry)) 0 (indexIn (length (now (index .entry))) (now (listing .entry)))) ⌝ }
+{
+    let s = sorting::sort_listing(listing, index);
+    number::sort_number(s)
 }
 
 // The half nearest to an f32, both as bits.

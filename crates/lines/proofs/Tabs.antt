@@ -35,7 +35,7 @@ cut-by x xs true ih = rw (lt-ltb 0 (suc (length xs)) (omega arith))
 cut-by x xs false ih = rw (ltb-ss (tabAt xs) (length xs)) (ap (onFirst x) ih)
 
 -- the first field ends at the first tab, and the others are those of what follows it
-cut : (s : List ℕ) → fields s ≡ take (tabAt s) s ∷ cond (ltb (tabAt s) (length s)) (fields (drop (suc (tabAt s)) s)) []
+pub cut : (s : List ℕ) → fields s ≡ take (tabAt s) s ∷ cond (ltb (tabAt s) (length s)) (fields (drop (suc (tabAt s)) s)) []
 unfolding fields placeOf
 cut [] = refl
 cut (x ∷ xs) = cut-by x xs (eqb x tab) (cut xs)

@@ -1,27 +1,25 @@
 -- What is read at once is what the text spells: the type that stands before the colon, then lane by lane the digits, a comma before each lane but the first, and the end. A value's text has no tab, so the first tab stands behind it. Assumes nothing.
-use Prim.Native.Nat.{ℕ, zero, suc, _+_, _*_, _-_, _/_, _%_, _≤_, _<_, _^_}
+use Prim.Native.Nat.{ℕ, zero, suc, _+_, _*_, _-_, _≤_, _<_, _^_}
 use mathlib.Core.Bool.{Bool, true, false, cond}
 use mathlib.Core.List.{List, [], _∷_, _++_}
 use mathlib.Core.Path.{_≡_, refl, ap, sym, _∙_}
 use native.Mathlib.Nat.{mod-eq-of-lt}
 use native.Mathlib.Omega.{arith}
-use borrow.Author.Tests.{ltb-true, ltb-false, eqb-true, ne-eqb}
+use borrow.Author.Tests.{ltb-true, ltb-false, eqb-true}
 use lib.Dec.{eqb, ltb}
 use lib.ListN.{length, take, drop, getD, take-append-drop, length-append}
 use lib.Seq.{take-take, length-take-le, append-snoc}
 use Rattle.values.specs.declared.Scalar.{Scalar}
-use Rattle.values.specs.declared.Value.{Value}
 use Rattle.values.specs.Value.{scalarOf, laneCount, kindAt, value}
 use Rattle.values.specs.Four.{low, four}
-use Rattle.values.proofs.Places.{each}
 use Rattle.texts.specs.Text.{placeOf}
-use Rattle.texts.proofs.FirstPlace.{place-le, place-hit, place-past, without, without-both}
+use Rattle.texts.proofs.FirstPlace.{place-le, place-hit, place-past}
 use Rattle.spelling.specs.Types.{spelled}
-use Rattle.spelling.specs.Hex.{digitCount, digitBound, digitsBelow, number, hexBytes}
+use Rattle.spelling.specs.Hex.{digitCount, digitBound, digitsBelow, number}
 use Rattle.spelling.specs.Read.{good, before, lanesAt, found, reading, readLanes, readValue}
-use Rattle.spelling.specs.Write.{lanesText, textOf}
 use Rattle.spelling.proofs.Scan.{lane-next, digits-next, lanes-all, lanes-of}
 use Rattle.spelling.proofs.ReadsBack.{type-back}
+use Rattle.spelling.proofs.TextBytes.{text-tabless}
 use Rattle.spelling.proofs.WrittenSo.{written-so}
 use Rattle.shorts.specs.Shorts.{longOf}
 use Rattle.shorts.specs.Texts.{laneFrom, laneAfter, lanesFrom}
@@ -76,28 +74,7 @@ module _ (b w p : ℕ) (s : List ℕ) where
       (after 1 _ (u + 2 * (w + 1)) _ _ (omega arith) (omega arith) j (after 0 _ (u + 3 * (w + 1)) _ _ (omega arith) (omega arith) k (last _ _ (omega arith))))
   lanes i (suc (suc (suc (suc (suc n))))) low high h f g j k = absurd (omega arith)
 
--- ---- tabs
-
-byte-tabless : (d : ℕ) (t : Bool) → eqb (cond t (48 + d) (65 + (d - 10))) 9 ≡ false
-byte-tabless d true = ne-eqb (48 + d) 9 (λ e. omega arith)
-byte-tabless d false = ne-eqb (65 + (d - 10)) 9 (λ e. omega arith)
-
-hex-tabless : (n v : ℕ) → without 9 (hexBytes n v) ≡ true
-unfolding hexBytes
-hex-tabless zero v = refl
-hex-tabless (suc n) v = without-both 9 (hexBytes n (v / 16)) _ (hex-tabless n (v / 16)) (rw (byte-tabless (v % 16) (ltb (v % 16) 10)))
-
-lanes-tabless : (c w : ℕ) (l : List ℕ) → (c ≡ 9 → ⊥) → without 9 (lanesText c w l) ≡ true
-unfolding lanesText
-lanes-tabless c w [] h = refl
-lanes-tabless c w (v ∷ l) h = rw (ne-eqb c 9 h) (without-both 9 (hexBytes w v) _ (hex-tabless w v) (lanes-tabless 44 w l (λ e. omega arith)))
-
--- no value's text has a tab
-text-tabless : (v : Value) → without 9 (textOf v) ≡ true
-unfolding textOf
-text-tabless v =
-    let k = v .kind in
-    without-both 9 (spelled k) _ (each (λ l. without 9 (spelled l)) refl k) (lanes-tabless 58 (digitCount (scalarOf k)) _ (λ e. omega arith))
+-- ---- tabs: no value's text has one
 
 -- so the first tab is past it, and stands where the field ends
 at-end : (t : List ℕ) (e : ℕ) (on : Bool) → ltb e (length t) ≡ on → e ≤ length t → cond on (eqb (getD t e 0) 9) true ≡ true → e ≤ placeOf 9 t → e ≡ placeOf 9 t

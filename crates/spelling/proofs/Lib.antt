@@ -8,5 +8,6 @@ pub mod ReadsBack
 pub mod Scan
 pub mod Spellings
 pub mod Tested
+pub mod TextBytes
 pub mod Texts
 pub mod WrittenSo

@@ -38,7 +38,7 @@ module _ (n : ℕ) where
   pub length-refused : (n ≡ 0 → ⊥) → length (refusedText n) ≡ 8 + places n
   length-refused h = ap length (refused-some h) ∙ omega (arith, length-digits (places n) n)
 
-refused-le : (n : ℕ) → length (refusedText n) ≤ mostText
+pub refused-le : (n : ℕ) → length (refusedText n) ≤ mostText
 unfolding refusedText
 refused-le n = by (eqb n 0)
   where

@@ -42,7 +42,7 @@ fn wide(x: u8) -> usize
 }
 
 // A byte at a place; answers the next place.
-fn put_byte(out: &mut [u8], at: usize, b: u8) -> usize
+pub fn put_byte(out: &mut [u8], at: usize, b: u8) -> usize
     requires { ⌜ at < length (now out) ⌝ }
     ensures { λ r. ⌜ (r ≡ at + 1) × (now (out .exit) ≡ put (now (out .entry)) at (b ∷ [])) ⌝ }
 {
@@ -85,7 +85,7 @@ fn places_of(v: usize) -> usize
 }
 
 // `refused`, tab, number at a place, nothing for 0; answers the next place.
-fn put_refusal(out: &mut [u8], at: usize, refusal: u8) -> usize
+pub fn put_refusal(out: &mut [u8], at: usize, refusal: u8) -> usize
     requires { ⌜ at + length (refusedText refusal) ≤ length (now out) ⌝ }
     ensures { λ r. ⌜ (r ≡ at + length (refusedText refusal)) × (now (out .exit) ≡ put (now (out .entry)) at (refusedText refusal)) ⌝ }
 {

@@ -2,6 +2,7 @@
 use Prim.Native.Nat.{ℕ, _+_, _-_, _*_, _^_}
 use mathlib.Core.Bool.{Bool, true, false, _&&_}
 use mathlib.Core.List.{List, [], _∷_, _++_, map}
+use mathlib.Core.Path.{_≡_}
 use lib.Dec.{ltb, eqb}
 use lib.ListN.{length, take, drop, getD, replicate}
 use Rattle.values.specs.declared.Scalar.{Scalar}
@@ -133,6 +134,11 @@ every p (x ∷ xs) = p x && every p xs
 unfoldable pub wellFormed : Value → Bool
 wellFormed v =
     isType (v .kind) && every (λ x. ltb x (2 ^ laneBits (scalarOf (v .kind)))) (lanesOf v) && every (λ x. eqb x 0) (drop (laneCount (v .kind)) (v .lanes))
+
+-- a value that a record can hold, which has 16 lanes, and that is well formed
+pub record Formed (v : Value) : Type 0 where
+  pub good : wellFormed v ≡ true
+  pub lanes : length (v .lanes) ≡ 16
 
 -- ---- "Vectors act lane by lane": one function on each lane of the first value, and on the others' lanes at the same place
 

@@ -39,7 +39,8 @@ fn sixteen(w: &[u64], at: usize) -> [u64; 16]
     ]
 }
 
-fn value_at(w: &[u64], at: usize) -> Value
+// The value whose words start at `at`.
+pub fn value_at(w: &[u64], at: usize) -> Value
     requires { ⌜ at ≤ 37 ⌝ }
     ensures { λ r. ⌜ r ≡ valueAt (now (w .entry)) at ⌝ }
 {

@@ -1,0 +1,3 @@
+pub mod LaneBounds
+pub mod Values
+pub mod Answered

@@ -1,0 +1,118 @@
+-- Whatever is printed for a line of input is an answer line: a refusal is `refused` and its number, and the call that a line spells has values of 16 lanes, so that what it is answered with is
+-- well formed. No answer line has a newline in it, so what is printed for all of the input is these lines, one after another. Assumes nothing.
+use Prim.Native.Nat.{ℕ}
+use mathlib.Core.Bool.{Bool, true, false, cond}
+use mathlib.Core.List.{List, [], _∷_, _++_, append-nil}
+use mathlib.Core.Logic.{inl, inr}
+use mathlib.Core.Path.{_≡_, refl, _∙_}
+use native.Mathlib.Numerals.{add-one}
+use native.Mathlib.Omega.{arith}
+use lib.Dec.{lit<, ltb, eqb}
+use lib.ListN.{length, length-append}
+use lib.Seq.{take-append-seam, drop-append-add}
+use borrow.Author.Tests.{eqb-true, eqb-false}
+use Rattle.values.specs.declared.Value.{Value}
+use Rattle.values.specs.Value.{isType, shaped, emptyValue}
+use Rattle.values.specs.declared.Scalar.the-variants.{I32}
+use Rattle.values.proofs.Bools.{and}
+use Rattle.values.proofs.Places.{itself}
+use Rattle.calls.specs.declared.Builtin.the-variants.{Bitcast}
+use Rattle.builtins.specs.declared.Answer.{Answer}
+use Rattle.builtins.specs.Fold.{refused, foldOf}
+use Rattle.formed.specs.Answers.{AnswerFormed, Held}
+use Rattle.formed.proofs.Answered.{answers-formed}
+use Rattle.texts.specs.Text.{bytes, sameBytes}
+use Rattle.texts.proofs.FirstPlace.{without, without-both, place-after}
+use Rattle.spelling.specs.Write.{textOf}
+use Rattle.spelling.proofs.WrittenSo.{read-lanes}
+use Rattle.spelling.proofs.TextBytes.{text-without}
+use Rattle.lines.specs.Fields.{tab, fieldAt, argumentCount}
+use Rattle.lines.specs.Names.{nameOf, builtinOf}
+use Rattle.lines.specs.Line.{plainCall, castCall, callOf, mostBytes, lineOf, refusalOf, secondText, answerOf}
+use Rattle.stream.specs.Lines.{lines}
+use Rattle.stream.specs.Printed.{places, digits, refusedText, answerText, answerLine, answerLines, printed}
+use Rattle.stream.proofs.Cut.{lines-ended}
+use Rattle.listings.specs.Answers.{refusedLine, valuesLine, isPair, readAnswer}
+use Rattle.listings.specs.Listing.{allAnswers}
+use Rattle.listings.proofs.AnswerTexts.{value-read, pair-read, refusal-read, decimal-without, digits-decimal}
+use Rattle.listings.proofs.AnswerValues.{no-second, second}
+
+-- ---- one line
+
+held : (line : List ℕ) → Held (callOf line)
+unfolding callOf castCall plainCall emptyValue
+held line = by (sameBytes (nameOf Bitcast) (fieldAt line 0))
+  where
+    by : (b : Bool) → let which = builtinOf (fieldAt line 0) in let n = argumentCount line in Held (cond b (castCall which n line) (plainCall which n line))
+    by true = record { a = read-lanes (fieldAt line 2); b = refl; c = refl }
+    by false = record { a = read-lanes (fieldAt line 1); b = read-lanes (fieldAt line 2); c = read-lanes (fieldAt line 3) }
+
+line-formed : (line : List ℕ) → refusalOf line ≡ 0 → AnswerFormed (lineOf line)
+unfolding refusalOf lineOf refused
+line-formed line = by (ltb mostBytes (length line))
+  where
+    by : (b : Bool) → cond b (refused 7) (foldOf (callOf line)) .refusal ≡ 0 → AnswerFormed (cond b (refused 7) (foldOf (callOf line)))
+    by true e = absurd (omega arith)
+    by false e = answers-formed (callOf line) (held line) e
+
+answer-ok : (a : Answer) → AnswerFormed a → readAnswer (textOf (a .first) ++ secondText (a .second)) .ok ≡ true
+unfolding valuesLine isPair
+answer-ok a h =
+    let f = h .first in
+    elim (h .second) [
+      | inl e ↦ rw (e, no-second, append-nil, value-read (a .first) (f .lanes) (f .good))
+      | inr p ↦
+          let w = p .second in
+          let pair : isPair (a .first .kind) (a .second .kind) ≡ true = and (p .float) (rw (p .shape) (itself (shaped I32 (a .first .kind)))) in
+          rw (second (a .second) (w .good), pair-read (a .first) (a .second) (f .lanes) (f .good) (w .lanes) (w .good) pair)
+    ]
+
+pub printed-answer : (l : List ℕ) → readAnswer (answerText l) .ok ≡ true
+unfolding answerText answerOf refusedLine
+printed-answer l = by (eqb (refusalOf l) 0) refl
+  where
+    by : (b : Bool) → eqb (refusalOf l) 0 ≡ b → readAnswer (cond b (answerOf l) (refusedText (refusalOf l))) .ok ≡ true
+    by true e = answer-ok (lineOf l) (line-formed l (eqb-true (refusalOf l) 0 e))
+    by false e = rw (refusal-read (refusalOf l) (eqb-false (refusalOf l) 0 e))
+
+-- ---- all lines
+
+second-unbroken : (v : Value) → without 10 (secondText v) ≡ true
+unfolding secondText
+second-unbroken v = by (isType (v .kind))
+  where
+    by : (b : Bool) → without 10 (cond b (tab ∷ textOf v) []) ≡ true
+    by true = text-without 10 (lit< tt) v
+    by false = refl
+
+refused-unbroken : (n : ℕ) → without 10 (refusedText n) ≡ true
+unfolding refusedText
+refused-unbroken n = by (eqb n 0)
+  where
+    by : (b : Bool) → without 10 (cond b [] (bytes "refused" ++ tab ∷ digits (places n) n)) ≡ true
+    by true = refl
+    by false = decimal-without 10 (lit< tt) (digits (places n) n) (digits-decimal (places n) n)
+
+answer-unbroken : (l : List ℕ) → without 10 (answerText l) ≡ true
+unfolding answerText answerOf
+answer-unbroken l = by (eqb (refusalOf l) 0)
+  where
+    by : (b : Bool) → without 10 (cond b (answerOf l) (refusedText (refusalOf l))) ≡ true
+    by true = let a = lineOf l in without-both 10 (textOf (a .first)) (secondText (a .second)) (text-without 10 (lit< tt) (a .first)) (second-unbroken (a .second))
+    by false = refused-unbroken (refusalOf l)
+
+-- a text without a newline, and a newline, are the first line
+line-first : (t rest : List ℕ) → without 10 t ≡ true → lines ((t ++ (10 ∷ [])) ++ rest) ≡ t ∷ lines rest
+line-first t rest h =
+    let e = place-after 10 t [] h in
+    lines-ended rest (t ++ (10 ∷ [])) (omega (arith, e, length-append t (10 ∷ []))) ∙ rw (e, take-append-seam t (10 ∷ []), ← add-one (length t), drop-append-add t (10 ∷ []) 1)
+
+all-printed : (ls : List (List ℕ)) → allAnswers (lines (answerLines ls)) ≡ true
+unfolding allAnswers answerLines answerLine lines
+all-printed [] = refl
+all-printed (l ∷ ls) = rw (line-first (answerText l) (answerLines ls) (answer-unbroken l)) (and (printed-answer l) (all-printed ls))
+
+-- what is printed for all of the input is a listing of answer lines
+pub printed-answers : (s : List ℕ) → allAnswers (lines (printed s)) ≡ true
+unfolding printed
+printed-answers s = all-printed (lines s)

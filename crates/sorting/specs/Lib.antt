@@ -1,0 +1,4 @@
+pub mod Index
+pub mod Sorting
+pub mod Printed
+pub mod Starts
