@@ -26,11 +26,21 @@ fn main() {
     let text = fs::read(lines).expect("the file of lines");
     rustlines::quiet_panics();
     println!("{:<24} {:>14} {:>14} {:>8}", "", "ours", "the Rust", "ratio");
+    part("record calls");
     records(&text);
+    part("lines");
     programs(&text, foldlines, rustlines, emulator);
+    part("half conversions");
     halves();
+    part("the order of two values");
     orders();
+    part("listings");
     listings(&text, foldsort, emulator);
+}
+
+/// Tells how far the run is.
+fn part(what: &str) {
+    eprintln!("bench: {what}");
 }
 
 /// Two sides in turns; the fastest turn of each.
@@ -196,7 +206,8 @@ type Compared = ([u64; 17], Vec<f32>);
 
 fn orders() {
     // the numbers of f32, vec4<f32> and mat4x4<f32>
-    for (what, number, lanes) in [("compare f32", 4, 1), ("compare vec4<f32>", 19, 4), ("compare mat4x4<f32>", 29, 16)] {
+    for (what, number, lanes) in [("compare f32", 4, 1), ("compare vec4<f32>", 19, 4), ("compare mat4x4<f32>", 29, 16)]
+    {
         let mut random = random_bits();
         // only the last lane tells two values apart, so that every lane is looked at
         let values: Vec<Compared> = (0..FEW)

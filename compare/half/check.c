@@ -139,8 +139,11 @@ int main(int count_of_words, char **words)
 
     /* One pattern of each of COUNT parts of equal length, at a place that wanders. */
     uint64_t part = (UINT64_C(1) << 32) / count;
-    for (uint64_t k = 0; k < count; k++)
+    for (uint64_t k = 0; k < count; k++) {
         narrow((uint32_t)(k * part + (k * UINT64_C(2654435761) >> 7) % part));
+        if ((k + 1) % (UINT64_C(1) << 28) == 0)
+            fprintf(stderr, "%" PRIu64 " of %" PRIu64 " patterns\n", k + 1, count);
+    }
 
     /* Halfway from each finite half to the next, and beside it; each half itself, and beside it. */
     for (uint32_t half = 0; half <= 0xFFFF; half++) {

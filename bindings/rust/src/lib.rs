@@ -18,7 +18,8 @@
 //! # Ok::<(), Refusal>(())
 //! ```
 //!
-//! Nothing here allocates but [`fold_line`], [`sort_listing`] and what prints. All of it may be called from several threads at once.
+//! Nothing here allocates but [`fold_line`], [`sort_listing`] and what prints. All of it may be called from several
+//! threads at once.
 
 #![warn(missing_docs)]
 

@@ -1,4 +1,4 @@
-use crate::{ffi, Refusal};
+use crate::{ffi, refusal::written, Refusal};
 
 /// No answer has more bytes.
 pub const LONGEST_ANSWER: usize = 311;
@@ -16,8 +16,5 @@ pub fn fold_line(line: &[u8]) -> Result<String, Refusal> {
 pub fn fold_line_into<'a>(line: &[u8], out: &'a mut [u8]) -> Result<&'a [u8], Refusal> {
     // SAFETY: each pointer and length are those of a slice, and a shared and an exclusive one do not overlap.
     let answer = unsafe { ffi::chanrelout_line(line.as_ptr(), line.len(), out.as_mut_ptr(), out.len()) };
-    match Refusal::from_number((answer >> 32) as u8) {
-        Some(refusal) => Err(refusal),
-        None => Ok(&out[..(answer & 0xFFFF_FFFF) as usize]),
-    }
+    Ok(&out[..written(answer)?])
 }

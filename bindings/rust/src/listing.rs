@@ -1,4 +1,4 @@
-use crate::{ffi, Refusal};
+use crate::{ffi, refusal::written, Refusal};
 
 /// A listing of more bytes is refused.
 pub const LONGEST_LISTING: usize = 32_768;
@@ -19,8 +19,5 @@ pub fn sort_listing(listing: &[u8]) -> Result<Vec<u16>, Refusal> {
 pub fn sort_listing_into<'a>(listing: &[u8], index: &'a mut [u16]) -> Result<&'a [u16], Refusal> {
     // SAFETY: each pointer and length are those of a slice, and a shared and an exclusive one do not overlap.
     let answer = unsafe { ffi::chanrelout_sort(listing.as_ptr(), listing.len(), index.as_mut_ptr(), index.len()) };
-    match Refusal::from_number((answer >> 32) as u8) {
-        Some(refusal) => Err(refusal),
-        None => Ok(&index[..(answer & 0xFFFF_FFFF) as usize]),
-    }
+    Ok(&index[..written(answer)?])
 }

@@ -40,7 +40,8 @@ fn every_two_values_stand_in_one_way() {
 
 #[test]
 fn f32s_stand_by_total_cmp() {
-    let mut bits: Vec<u32> = (0..=8).flat_map(|top| [0, 1, 0x3F_FFFF, 0x40_0000, 0x7F_FFFF].map(|low| top << 28 | low)).collect();
+    let mut bits: Vec<u32> =
+        (0..=8).flat_map(|top| [0, 1, 0x3F_FFFF, 0x40_0000, 0x7F_FFFF].map(|low| top << 28 | low)).collect();
     bits.extend([0x7F80_0000, 0x7F80_0001, 0x7FC0_0000, 0x7FFF_FFFF].iter().flat_map(|&nan| [nan, nan | 0x8000_0000]));
     for &a in &bits {
         for &b in &bits {

@@ -198,10 +198,22 @@ mod tests {
     fn lines_that_are_no_answer_lines() {
         let reader = Reader::new();
         for line in [
-            "", "refused", "refused\t", "refused\t1234", "refused\t1\t2\t3", "refused\t-1", "i32:0000000", "bool:2",
-            "f32:7fc00000", "i32:00000000\ti32:00000000", "f32:00000000\tvec2<i32>:00000000,00000000", "vec4f:0",
+            "",
+            "refused",
+            "refused\t",
+            "refused\t1234",
+            "refused\t1\t2\t3",
+            "refused\t-1",
+            "i32:0000000",
+            "bool:2",
+            "f32:7fc00000",
+            "i32:00000000\ti32:00000000",
+            "f32:00000000\tvec2<i32>:00000000,00000000",
+            "vec4f:0",
             "mat2x2<f32>:00000000,00000000,00000000,00000000\tvec4<i32>:00000000,00000000,00000000,00000000",
-            "f32:00000000\t", "vec2<f16>:3C00", "vec2<f16>:3C00,3C00,3C00",
+            "f32:00000000\t",
+            "vec2<f16>:3C00",
+            "vec2<f16>:3C00,3C00,3C00",
         ] {
             assert_eq!(reader.read(line.as_bytes()), None, "{line}");
         }

@@ -30,9 +30,28 @@ impl Random {
 
 /// Zeros, ones, infinities, NaNs of both signs, quiet and signalling, and their neighbours.
 const F32S: [u32; 22] = [
-    0, 0x8000_0000, 1, 0x8000_0001, 0x3F80_0000, 0xBF80_0000, 0x7F7F_FFFF, 0xFF7F_FFFF, 0x7F80_0000, 0xFF80_0000,
-    0x7F80_0001, 0xFF80_0001, 0x7FBF_FFFF, 0xFFBF_FFFF, 0x7FC0_0000, 0xFFC0_0000, 0x7FC0_0001, 0xFFC0_0001,
-    0x7FFF_FFFF, 0xFFFF_FFFF, 0x0080_0000, 0x007F_FFFF,
+    0,
+    0x8000_0000,
+    1,
+    0x8000_0001,
+    0x3F80_0000,
+    0xBF80_0000,
+    0x7F7F_FFFF,
+    0xFF7F_FFFF,
+    0x7F80_0000,
+    0xFF80_0000,
+    0x7F80_0001,
+    0xFF80_0001,
+    0x7FBF_FFFF,
+    0xFFBF_FFFF,
+    0x7FC0_0000,
+    0xFFC0_0000,
+    0x7FC0_0001,
+    0xFFC0_0001,
+    0x7FFF_FFFF,
+    0xFFFF_FFFF,
+    0x0080_0000,
+    0x007F_FFFF,
 ];
 const F16S: [u32; 18] = [
     0, 0x8000, 1, 0x8001, 0x3C00, 0xBC00, 0x7BFF, 0xFBFF, 0x7C00, 0xFC00, 0x7C01, 0xFC01, 0x7DFF, 0xFDFF, 0x7E00,
@@ -63,7 +82,8 @@ fn random_lane(random: &mut Random, lane: Lane) -> u32 {
 }
 
 fn spelled(ty: &Type, lanes: &[u32]) -> String {
-    let lanes: Vec<String> = lanes.iter().map(|lane| format!("{:0digits$X}", lane, digits = ty.lane.digits())).collect();
+    let lanes: Vec<String> =
+        lanes.iter().map(|lane| format!("{:0digits$X}", lane, digits = ty.lane.digits())).collect();
     format!("{}:{}", ty.spelling, lanes.join(","))
 }
 
@@ -175,7 +195,8 @@ pub fn distinct_lines(random: &mut Random, reader: &Reader) -> Vec<String> {
     while lines.len() < 40 {
         let line = random_line(random, reader);
         let answer = reader.read(line.as_bytes()).expect("an answer line");
-        let new = |other: &String| reader.compare(&reader.read(other.as_bytes()).expect("an answer line"), &answer).is_ne();
+        let new =
+            |other: &String| reader.compare(&reader.read(other.as_bytes()).expect("an answer line"), &answer).is_ne();
         if lines.iter().all(new) {
             lines.push(line);
         }

@@ -51,7 +51,9 @@ fn check(reader: &Reader, random: &mut Random, count: u64, command: &[&str]) {
         let wanted = reader.printed(&listing);
         hold(command, &listing, &wanted);
         match wanted.strip_prefix(b"refused\t").filter(|_| wanted != listing) {
-            Some(number) if wanted.len() < 12 && listing.len() > 12 => *refused.entry(number.to_vec()).or_insert(0) += 1,
+            Some(number) if wanted.len() < 12 && listing.len() > 12 => {
+                *refused.entry(number.to_vec()).or_insert(0) += 1
+            }
             _ => lines += wanted.iter().filter(|&&byte| byte == b'\n').count(),
         }
         if done % 5 == 0 {
@@ -67,8 +69,10 @@ fn check(reader: &Reader, random: &mut Random, count: u64, command: &[&str]) {
             eprintln!("{} of {count} listings", done + 1);
         }
     }
-    let refused: Vec<String> =
-        refused.iter().map(|(number, times)| format!("{} by {}", times, String::from_utf8_lossy(number).trim())).collect();
+    let refused: Vec<String> = refused
+        .iter()
+        .map(|(number, times)| format!("{} by {}", times, String::from_utf8_lossy(number).trim()))
+        .collect();
     println!("{count} listings, {lines} lines put in order, refused {}; {shuffled} shuffles", refused.join(", "));
 }
 

@@ -2,7 +2,7 @@
 use Prim.Native.Nat.{ℕ, zero, suc, _+_, _*_, _/_, _%_, _^_, _<_}
 use mathlib.Core.Bool.{Bool, true}
 use mathlib.Core.List.{List, [], _∷_, _++_}
-use mathlib.Core.Path.{_≡_, refl, ap, subst, _∙_}
+use mathlib.Core.Path.{_≡_, refl, sym, ap, subst, _∙_}
 use native.Mathlib.Nat.{zero-mul, suc-mul, mod-lt, div-div-eq-div-mul}
 use native.Mathlib.Omega.{arith}
 use borrow.Author.Tests.{ltb-true, lt-ltb}
@@ -11,7 +11,7 @@ use lib.ListN.{length, take, drop, length-append, length-take, length-drop, take
 use lib.Pow.{pow-pos}
 use lib.Seq.{take-at, drop-at}
 use Rattle.values.specs.Value.{every}
-use Rattle.values.proofs.Bools.{both, and}
+use Rattle.values.proofs.Bools.{both, and, every-append, every-both}
 use Rattle.numeric.specs.Parts.{parts, joined}
 use Rattle.builtins.specs.Bitcast.{bytesOf, ofBytes}
 use Rattle.builtins.proofs.Words.{joined-parts, length-parts, lowest, others}
@@ -19,19 +19,8 @@ use Rattle.builtins.proofs.Words.{joined-parts, length-parts, lowest, o
 abbrev pub below : ℕ → List ℕ → Bool
 below b xs = every (λ x. ltb x b) xs
 
-below-append : (b : ℕ) (xs ys : List ℕ) → below b xs ≡ true → below b ys ≡ true → below b (xs ++ ys) ≡ true
-below-append b [] ys s t = t
-below-append b (x ∷ xs) ys s t = let h = both (ltb x b) (below b xs) s in and (h .0) (below-append b xs ys (h .1) t)
-
-of-append : (b : ℕ) (xs ys : List ℕ) → below b (xs ++ ys) ≡ true → (below b xs ≡ true) × (below b ys ≡ true)
-of-append b [] ys t = (refl, t)
-of-append b (x ∷ xs) ys t =
-    let h = both (ltb x b) (below b (xs ++ ys)) t in
-    let r = of-append b xs ys (h .1) in
-    (and (h .0) (r .0), r .1)
-
 pub below-split : (b n : ℕ) (xs : List ℕ) → below b xs ≡ true → (below b (take n xs) ≡ true) × (below b (drop n xs) ≡ true)
-below-split b n xs t = of-append b (take n xs) (drop n xs) (rw (take-append-drop n xs) t)
+below-split b n xs t = both (below b (take n xs)) (below b (drop n xs)) (sym (every-append _ (take n xs) (drop n xs)) ∙ rw (take-append-drop n xs) t)
 
 -- ---- a lane
 
@@ -55,7 +44,7 @@ bytes-length k (x ∷ xs) = rw (length-append (parts 8 k x) (bytesOf k xs), leng
 
 pub bytes-below : (k : ℕ) (xs : List ℕ) → below (2 ^ 8) (bytesOf k xs) ≡ true
 bytes-below k [] = refl
-bytes-below k (x ∷ xs) = below-append (2 ^ 8) (parts 8 k x) (bytesOf k xs) (parts-below 8 k x) (bytes-below k xs)
+bytes-below k (x ∷ xs) = every-both _ (parts 8 k x) (bytesOf k xs) (parts-below 8 k x) (bytes-below k xs)
 
 pub lanes-length : (k n : ℕ) (bs : List ℕ) → length (ofBytes k n bs) ≡ n
 lanes-length k zero bs = refl

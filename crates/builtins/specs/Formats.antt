@@ -1,10 +1,10 @@
 -- The seven packed formats: normal forms, and what holds of packing after unpacking, as statements. They are over `foldOf`, so that they are about the packers that a call reaches.
-use Prim.Native.Nat.{ℕ, suc, _^_, _<_}
+use Prim.Native.Nat.{ℕ, _^_, _<_}
 use mathlib.Core.Path.{_≡_}
 use mathlib.Core.Logic.{_↔_}
-use mathlib.Core.Bool.{cond}
+use mathlib.Core.Bool.{true, cond}
 use mathlib.Core.List.{map}
-use lib.Dec.{T, eqb}
+use lib.Dec.{T}
 use Rattle.values.specs.declared.Scalar.the-variants.{I32, U32, F32}
 use Rattle.values.specs.declared.Size.the-variants.{Two, Four}
 use Rattle.values.specs.declared.Kind.{Kind}
@@ -16,6 +16,7 @@ use Rattle.calls.specs.declared.Call.{Call}
 use Rattle.values.specs.Value.{emptyValue, wellFormed, lane}
 use Rattle.numeric.specs.Parts.{parts, joined}
 use Rattle.half.specs.Format.{f16, nan, isNan}
+use Rattle.norm.specs.Norm.{normalCode}
 use Rattle.builtins.specs.Pack.{word}
 use Rattle.builtins.specs.Fold.{foldOf}
 
@@ -50,20 +51,17 @@ lanesKind x16snorm = Vec Two F32
 lanesKind x16unorm = Vec Two F32
 lanesKind x16float = Vec Two F32
 
--- "In snorm words each lane 80 (8000) becomes 81 (8001). In half words each NaN lane becomes 7E00."
-abbrev pub normalSnorm : ℕ → ℕ → ℕ
-normalSnorm least c = cond (eqb c least) (suc c) c
-
+-- "In half words each NaN lane becomes 7E00."
 abbrev pub normalHalf : ℕ → ℕ
 normalHalf c = cond (isNan f16 c) (nan f16) c
 
--- "unorm, xI8 and xU8 words are their own"
+-- "unorm, xI8 and xU8 words are their own. In snorm words each lane 80 (8000) becomes 81 (8001)."
 unfoldable pub normalForm : Format → ℕ → ℕ
-normalForm x8snorm x = joined 8 (map (normalSnorm 0x80) (parts 8 4 x))
+normalForm x8snorm x = joined 8 (map (normalCode true 8) (parts 8 4 x))
 normalForm x8unorm x = x
 normalForm xI8 x = x
 normalForm xU8 x = x
-normalForm x16snorm x = joined 16 (map (normalSnorm 0x8000) (parts 16 2 x))
+normalForm x16snorm x = joined 16 (map (normalCode true 16) (parts 16 2 x))
 normalForm x16unorm x = x
 normalForm x16float x = joined 16 (map normalHalf (parts 16 2 x))
 

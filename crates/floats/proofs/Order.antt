@@ -69,6 +69,18 @@ alike a b c d l e g =
       same = ne-eqb a b (λ (i : a ≡ b). omega arith) ∙ sym (ne-eqb c d (λ (i : c ≡ d). omega arith));
     }
 
+-- at most is below or equal
+pub at-most : (a b : ℕ) → (ltb a b || eqb a b) ≡ leb a b
+at-most a b =
+    elim (split a b) [
+      | inl h ↦ rw (lt-ltb a b h) (sym (le-leb a b (omega arith)))
+      | inr h ↦
+          elim (eq-or-lt-of-le h) [
+            | inl e ↦ rw (le-ltb a b h, eq-eqb a b (sym e)) (sym (le-leb a b (omega arith)))
+            | inr g ↦ rw (le-ltb a b h, ne-eqb a b (λ (e : a ≡ b). omega arith)) (sym (lt-leb a b g))
+          ]
+    ]
+
 equal-alike : (a b c d : ℕ) → (a ≡ b → c ≡ d) → (c ≡ d → a ≡ b) → eqb a b ≡ eqb c d
 equal-alike a b c d p q = go (eqb a b) refl
   where
@@ -213,17 +225,6 @@ module _ (n m : ℕ) (i : format.isNan f32 n ≡ false) (j : format.isNan f32 m 
   pub le-rank : le (ofBits binary32 n) (ofBits binary32 m) ≡ leb (rank f32 n) (rank f32 m)
   unfolding le
   le-rank = ap (λ (b : Bool). b || eq (ofBits binary32 n) (ofBits binary32 m)) lt-rank ∙ ap (λ (b : Bool). ltb (rank f32 n) (rank f32 m) || b) eq-rank ∙ at-most (rank f32 n) (rank f32 m)
-    where
-      at-most : (a b : ℕ) → (ltb a b || eqb a b) ≡ leb a b
-      at-most a b =
-          elim (split a b) [
-            | inl h ↦ rw (lt-ltb a b h) (sym (le-leb a b (omega arith)))
-            | inr h ↦
-                elim (eq-or-lt-of-le h) [
-                  | inl e ↦ rw (le-ltb a b h, eq-eqb a b (sym e)) (sym (le-leb a b (omega arith)))
-                  | inr g ↦ rw (le-ltb a b h, ne-eqb a b (λ (e : a ≡ b). omega arith)) (sym (lt-leb a b g))
-                ]
-          ]
 
 -- ---- halves: conversion keeps the order of ranks, and so does the way back
 module _ (n m : ℕ) (h : n < 2 ^ 16) (l : m < 2 ^ 16) (i : format.isNan f16 n ≡ false) (j : format.isNan f16 m ≡ false) where

@@ -2,11 +2,14 @@
 use libc::STDIN_FILENO;
 use libc::STDOUT_FILENO;
 use stream::Held;
-ghost use Prim.Native.Nat.{_+_, _^_, _≤_, _<_};
+use stream::Space;
+ghost use Prim.Native.Nat.{_+_, _-_, _^_, _≤_, _<_};
+ghost use mathlib.Core.Bool.{cond};
 ghost use mathlib.Core.Path.{_≡_};
-ghost use lib.ListN.{length};
-ghost use Rattle.lines.specs.Line.{mostBytes};
-ghost use Rattle.stream.specs.Stream.{lineRoom, readOf};
+ghost use lib.ListN.{length, take};
+ghost use Rattle.texts.specs.Memory.{put};
+ghost use Rattle.stream.specs.Stream.{space, stepLines, textOf, readOf};
+ghost use Rattle.stream.specs.Turns.{Filled, Turn, Pumped};
 
 // What is held after n bytes were read behind it.
 fn got(h: Held, n: usize) -> Held
@@ -24,23 +27,39 @@ fn got(h: Held, n: usize) -> Held
     }
 }
 
-// Reads behind what is held. There is room, so that reading nothing means the end of the input.
-fn refill(buf: &mut [u8], h: Held) -> Held
-    requires { ⌜ (h .have ≤ mostBytes) × (mostBytes < length (now buf)) ⌝ }
+// Reads behind the first `have` bytes, which stay; answers how many came.
+fn read_behind(buf: &mut [u8], have: usize) -> usize
+    requires { ⌜ have ≤ length (now buf) ⌝ }
+    ensures { λ r. ⌜ (have + r ≤ length (now (buf .entry))) × (length (now (buf .exit)) ≡ length (now (buf .entry)))
+        × (take have (now (buf .exit)) ≡ take have (now (buf .entry))) ⌝ }
 {
-    let have = h.have;
     let answer = libc::read(STDIN_FILENO, &mut buf[have..]);
-    let n = io::count(answer, &buf[have..]);
+    io::count(answer, &buf[have..])
+}
+
+// Reads behind what is held. There is room, so that reading nothing means the end of the input.
+fn refill(buf: &mut Space, h: Held) -> Held
+    requires { ⌜ (h .at ≤ h .have) × (h .have < space) ⌝ }
+    ensures { λ r. ⌜ Filled (now (buf .entry)) h (now (buf .exit)) r ⌝ }
+{
+    let n = read_behind(buf, h.have);
     got(h, n)
 }
 
+// Writes the first `used` bytes to the standard output.
+fn print(out: &[u8], used: usize)
+    requires { ⌜ used ≤ length (now out) ⌝ }
+{
+    io::write_all(STDOUT_FILENO, &out[0..used]);
+}
+
 // A step, its answers written, and more read where it asks for that.
-fn turn(buf: &mut [u8], out: &mut [u8], h: Held) -> Held
-    requires { ⌜ (mostBytes < length (now buf)) × (lineRoom ≤ length (now out)) ⌝ }
+fn turn(buf: &mut Space, out: &mut Space, h: Held) -> Held
+    ensures { λ r. ⌜ Turn stepLines (now (buf .entry)) h (now (buf .exit)) r
+        × (now (out .exit) ≡ put (now (out .entry)) 0 (textOf stepLines (now (buf .entry)) h)) ⌝ }
 {
     let r = stream::step(buf, out, h);
-    let used = r.used;
-    io::write_all(STDOUT_FILENO, &out[0..used]);
+    print(out, r.used);
     if r.reads {
         return refill(buf, r);
     }
@@ -49,13 +68,14 @@ fn turn(buf: &mut [u8], out: &mut [u8], h: Held) -> Held
 
 fn turns_left(done: bool, turns: u64) -> u64
     requires { ⌜ 0 < turns ⌝ }
-    ensures { λ r. ⌜ r < turns ⌝ }
+    ensures { λ r. ⌜ (r < turns) × (r ≡ cond done 0 (turns - 1)) ⌝ }
 {
     if done { 0 } else { turns - 1 }
 }
 
-fn pump(buf: &mut [u8], out: &mut [u8])
-    requires { ⌜ (mostBytes < length (now buf)) × (lineRoom ≤ length (now out)) ⌝ }
+// Turn after turn until all is done.
+fn pump(buf: &mut Space, out: &mut Space)
+    ensures { λ _. ⌜ Pumped (now (buf .entry)) (now (buf .exit)) ⌝ }
 {
     let mut h = stream::start();
     let mut turns = u64::MAX;

@@ -1,6 +1,6 @@
 -- What an answered call gives is well formed. A call that is not refused has passed every test of its row, so its values are well formed and of the types that the row takes; then by builtin,
 -- by what its value is made of and the bound of its lane function. Assumes nothing.
-use Prim.Native.Nat.{ℕ, zero, suc, _^_, _<_}
+use Prim.Native.Nat.{ℕ, _^_, _<_}
 use mathlib.Core.Bool.{Bool, true, false, not, cond}
 use mathlib.Core.List.{[], _∷_}
 use mathlib.Core.Logic.{inl, inr}
@@ -20,13 +20,12 @@ use Rattle.values.proofs.Bools.{both, and}
 use Rattle.values.proofs.Places.{same}
 use Rattle.calls.specs.declared.Builtin.{Builtin}
 use Rattle.calls.specs.declared.Builtin.the-variants.{All, Any, Select, Abs, Sign, CountLeadingZeros, CountOneBits, CountTrailingZeros, Min, Max, Clamp, Saturate, Step, Cross, Dot, Transpose, Frexp, Ldexp, Bitcast, Pack4x8snorm, Pack4x8unorm, Pack4xI8, Pack4xI8Clamp, Pack4xU8, Pack4xU8Clamp, Pack2x16snorm, Pack2x16unorm, Pack2x16float, Unpack4x8snorm, Unpack4x8unorm, Unpack4xI8, Unpack4xU8, Unpack2x16snorm, Unpack2x16unorm, Unpack2x16float, Unknown}
-use Rattle.calls.specs.declared.Call.{Call}
 use Rattle.calls.specs.declared.Row.the-variants.{Unary, Binary, Ternary}
 use Rattle.calls.specs.declared.Taken.{Taken}
 use Rattle.calls.specs.declared.Taken.the-variants.{Anything, Booleans, Numbers, Integers, Ordered, Floats, Singles, I32s, Matrices, Only}
 use Rattle.calls.specs.declared.Together.the-variants.{OneType, Selectable, SameShape}
 use Rattle.calls.specs.Table.{taken, takes}
-use Rattle.calls.specs.Refuse.{judged, refusalOf}
+use Rattle.calls.specs.Refuse.{judged}
 use Rattle.calls.specs.Passed.{Passed, Passed3}
 use Rattle.calls.proofs.Passed.{unary, binary, ternary, cast}
 use Rattle.numeric.specs.Numeric.{leadingLane, onesLane, trailingLane, saturateLane, crossLane}
@@ -36,10 +35,11 @@ use Rattle.builtins.specs.Exponent.{fractionOf, exponentOf}
 use Rattle.builtins.specs.Formats.{x8snorm, x8unorm, xI8, xU8, x16snorm, x16unorm, x16float}
 use Rattle.builtins.specs.Logical.{flag, allOf, anyOf, selectLane, selectOf}
 use Rattle.builtins.specs.Numeric.{crossOf, dotOf, transposeOf}
-use Rattle.builtins.specs.Fold.{refused, answered, answeredTwice, answerBy, foldBy, foldOf}
+use Rattle.builtins.specs.Fold.{answered, answeredTwice, answerBy}
+use Rattle.builtins.proofs.Answers.{folds, unrefused}
 use Rattle.builtins.proofs.Chosen.{by-scalar, by-vector, lanes-to-choose}
 use Rattle.builtins.proofs.LaneLaws.{laws}
-use Rattle.formed.specs.Answers.{AnswerFormed, Held, AnswersFormed}
+use Rattle.formed.specs.Answers.{AnswerFormed, AnswersFormed}
 use Rattle.formed.proofs.LaneBounds.{bound, one-of, abs-below, sign-below, leading-below, ones-below, trailing-below, max-below, min-below, clamp-below, saturate-below, step-below, cross-below, dot-below}
 use Rattle.formed.proofs.Values.{made, one-lane, Within, within, isWide, wide, each1, each2, each3, integers, transposed-formed, packed-formed, unpacked-formed, filled-formed, bitcast-formed}
 
@@ -185,11 +185,7 @@ module _ (n : ℕ) (t : Kind) (a b c : Value) (la : length (a .lanes) ≡ 16) (l
   good Unpack2x16float e = one (unpacked-formed (laws x16float) Two F32 a refl refl)
   good Unknown e = absurd (unknown e)
 
-by-refusal : (m : ℕ) (c : Call) → m ≡ refusalOf c → Held c → foldBy m c .refusal ≡ 0 → AnswerFormed (foldBy m c)
-unfolding refused
-by-refusal zero c e h r = good (c .count) (c .target) (c .a) (c .b) (c .c) (h .a) (h .b) (h .c) (c .builtin) (sym e)
-by-refusal (suc m) c e h r = absurd (omega arith)
-
 pub answers-formed : AnswersFormed
-unfolding foldOf
-answers-formed c h r = by-refusal (refusalOf c) c refl h r
+answers-formed c h r =
+    let e = unrefused c r in
+    subst AnswerFormed (sym (folds (c .builtin) (c .count) (c .target) (c .a) (c .b) (c .c) e)) (good (c .count) (c .target) (c .a) (c .b) (c .c) (h .a) (h .b) (h .c) (c .builtin) e)

@@ -1,3 +1,4 @@
 pub mod LaneBounds
 pub mod Values
 pub mod Answered
+pub mod CastBack

@@ -10,4 +10,3 @@ pub mod Monotone
 pub mod Half
 pub mod Single
 pub mod Library
-pub mod Marked

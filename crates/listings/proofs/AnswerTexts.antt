@@ -11,7 +11,7 @@ use lib.Dec.{lit<, ltb, leb}
 use borrow.Author.Tests.{ne-eqb, le-leb, leb-true}
 use Rattle.values.specs.Value.{every, emptyValue, wellFormed}
 use Rattle.values.specs.declared.Value.{Value}
-use Rattle.values.proofs.Bools.{both, and}
+use Rattle.values.proofs.Bools.{both, every-both}
 use Rattle.texts.specs.Text.{placeOf, bytes, sameBytes}
 use Rattle.texts.proofs.FirstPlace.{place-le, place-past, place-after, without}
 use Rattle.texts.proofs.Lookup.{same-false}
@@ -84,16 +84,12 @@ unfolding readAnswer ofFields sameBytes
 refused-place-read n p e f =
     rw (next-field (bytes "refused") (n ++ (tab ∷ p)) refl, next-field n p (number-tabless n e), one-field p (number-tabless p f), e, f)
 
-decimal-both : (l m : List ℕ) → every decimalDigit l ≡ true → every decimalDigit m ≡ true → every decimalDigit (l ++ m) ≡ true
-decimal-both [] m s t = t
-decimal-both (x ∷ l) m s t = let h = both (decimalDigit x) (every decimalDigit l) s in and (h .0) (decimal-both l m (h .1) t)
-
 pub digits-decimal : (k v : ℕ) → every decimalDigit (digits k v) ≡ true
 unfolding digits
 digits-decimal zero v = refl
 digits-decimal (suc k) v =
     let m : v % 10 < 10 = mod-lt v (omega arith) in
-    decimal-both (digits k (v / 10)) _ (digits-decimal k (v / 10)) (rw (le-leb 48 (48 + v % 10) (omega arith), le-leb (48 + v % 10) 57 (omega arith)))
+    every-both _ (digits k (v / 10)) _ (digits-decimal k (v / 10)) (rw (le-leb 48 (48 + v % 10) (omega arith), le-leb (48 + v % 10) 57 (omega arith)))
 
 digits-number : (k v : ℕ) → 1 ≤ k → k ≤ 3 → isNumber (digits k v) ≡ true
 unfolding isNumber

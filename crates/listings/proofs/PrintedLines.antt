@@ -14,7 +14,7 @@ use borrow.Author.Tests.{eqb-true, eqb-false}
 use Rattle.values.specs.declared.Value.{Value}
 use Rattle.values.specs.Value.{isType, shaped, emptyValue}
 use Rattle.values.specs.declared.Scalar.the-variants.{I32}
-use Rattle.values.proofs.Bools.{and}
+use Rattle.values.proofs.Bools.{and, every-both}
 use Rattle.values.proofs.Places.{itself}
 use Rattle.calls.specs.declared.Builtin.the-variants.{Bitcast}
 use Rattle.builtins.specs.declared.Answer.{Answer}
@@ -22,7 +22,7 @@ use Rattle.builtins.specs.Fold.{refused, foldOf}
 use Rattle.formed.specs.Answers.{AnswerFormed, Held}
 use Rattle.formed.proofs.Answered.{answers-formed}
 use Rattle.texts.specs.Text.{bytes, sameBytes}
-use Rattle.texts.proofs.FirstPlace.{without, without-both, place-after}
+use Rattle.texts.proofs.FirstPlace.{without, place-after}
 use Rattle.spelling.specs.Write.{textOf}
 use Rattle.spelling.proofs.WrittenSo.{read-lanes}
 use Rattle.spelling.proofs.TextBytes.{text-without}
@@ -98,7 +98,7 @@ unfolding answerText answerOf
 answer-unbroken l = by (eqb (refusalOf l) 0)
   where
     by : (b : Bool) → without 10 (cond b (answerOf l) (refusedText (refusalOf l))) ≡ true
-    by true = let a = lineOf l in without-both 10 (textOf (a .first)) (secondText (a .second)) (text-without 10 (lit< tt) (a .first)) (second-unbroken (a .second))
+    by true = let a = lineOf l in every-both _ (textOf (a .first)) (secondText (a .second)) (text-without 10 (lit< tt) (a .first)) (second-unbroken (a .second))
     by false = refused-unbroken (refusalOf l)
 
 -- a text without a newline, and a newline, are the first line

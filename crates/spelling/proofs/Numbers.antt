@@ -1,19 +1,15 @@
 -- Bytes that spell digits, one more at a time, and the number that they spell: digits after others shift what those spell. By induction on the bytes. Assumes nothing.
 use Prim.Native.Nat.{ℕ, suc, _+_, _*_, _<_, _≤_, _^_}
-use mathlib.Core.Bool.{Bool, _&&_, and-true, and-assoc}
+use mathlib.Core.Bool.{_&&_, and-true}
 use mathlib.Core.List.{List, [], _∷_, _++_}
-use mathlib.Core.Path.{_≡_, refl, sym, _∙_}
+use mathlib.Core.Path.{_≡_, refl, _∙_}
 use native.Mathlib.Nat.{add-mul, mul-assoc, pow-succ'}
 use native.Mathlib.Omega.{arith}
 use lib.Dec.{ltb}
 use lib.ListN.{length, take, drop, getD, length-drop}
 use lib.Seq.{getD-drop, take-suc, take-add, drop-drop, length-take-le}
-use Rattle.values.specs.Value.{every}
+use Rattle.values.proofs.Bools.{every-append}
 use Rattle.spelling.specs.Hex.{digitOf, digitsBelow, number}
-
-every-append : (q : ℕ → Bool) (xs ys : List ℕ) → every q (xs ++ ys) ≡ every q xs && every q ys
-every-append q [] ys = refl
-every-append q (x ∷ xs) ys = rw (every-append q xs ys) (sym (and-assoc (q x) (every q xs) (every q ys)))
 
 -- a digit more, from i on
 pub digits-more : (b : ℕ) (s : List ℕ) (i n : ℕ) → i + n < length s

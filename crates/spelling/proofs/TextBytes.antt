@@ -8,9 +8,9 @@ use borrow.Author.Tests.{ne-eqb, leb-true}
 use lib.Dec.{lit<, eqb, leb, ltb}
 use Rattle.values.specs.declared.Value.{Value}
 use Rattle.values.specs.Value.{scalarOf, every}
-use Rattle.values.proofs.Bools.{both}
+use Rattle.values.proofs.Bools.{both, every-both}
 use Rattle.values.proofs.Places.{each}
-use Rattle.texts.proofs.FirstPlace.{without, without-both}
+use Rattle.texts.proofs.FirstPlace.{without}
 use Rattle.spelling.specs.Types.{spelled}
 use Rattle.spelling.specs.Hex.{digitCount, hexBytes}
 use Rattle.spelling.specs.Write.{lanesText, textOf}
@@ -30,18 +30,18 @@ module _ (b : ℕ) (h : b < 44) where
   hex-without : (n v : ℕ) → without b (hexBytes n v) ≡ true
   unfolding hexBytes
   hex-without zero v = refl
-  hex-without (suc n) v = without-both b (hexBytes n (v / 16)) _ (hex-without n (v / 16)) (rw (digit-other (v % 16) (ltb (v % 16) 10)))
+  hex-without (suc n) v = every-both _ (hexBytes n (v / 16)) _ (hex-without n (v / 16)) (rw (digit-other (v % 16) (ltb (v % 16) 10)))
 
   lanes-without : (c w : ℕ) (l : List ℕ) → 44 ≤ c → without b (lanesText c w l) ≡ true
   unfolding lanesText
   lanes-without c w [] k = refl
-  lanes-without c w (v ∷ l) k = rw (ne-eqb c b (λ e. omega arith)) (without-both b (hexBytes w v) _ (hex-without w v) (lanes-without 44 w l (omega arith)))
+  lanes-without c w (v ∷ l) k = rw (ne-eqb c b (λ e. omega arith)) (every-both _ (hexBytes w v) _ (hex-without w v) (lanes-without 44 w l (omega arith)))
 
   pub text-without : (v : Value) → without b (textOf v) ≡ true
   unfolding textOf
   text-without v =
       let k = v .kind in
-      without-both b (spelled k) _ (high-without (spelled k) (each (λ l. every (λ x. leb 44 x) (spelled l)) refl k)) (lanes-without 58 (digitCount (scalarOf k)) _ (omega arith))
+      every-both _ (spelled k) _ (high-without (spelled k) (each (λ l. every (λ x. leb 44 x) (spelled l)) refl k)) (lanes-without 58 (digitCount (scalarOf k)) _ (omega arith))
 
 pub text-tabless : (v : Value) → without 9 (textOf v) ≡ true
 text-tabless = text-without 9 (lit< tt)

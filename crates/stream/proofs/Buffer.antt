@@ -1,12 +1,12 @@
 -- Laws of what a buffer holds, moved to its start.
 use Prim.Native.Nat.{ℕ, _+_, _-_, _<_, _≤_, min}
-use mathlib.Core.List.{List, [], _++_}
+use mathlib.Core.List.{List, [], _++_, append-assoc}
 use mathlib.Core.Bool.{Bool, true, false}
 use mathlib.Core.Path.{_≡_, refl, ap, sym, _∙_}
 use native.Mathlib.Nat.{zero-add, min-le-left, min-le-right, min-eq-left, min-eq-right}
 use native.Mathlib.Omega.{arith}
 use lib.ListN.{length, take, drop, getD, set, length-take, length-drop, drop-of-length-le}
-use lib.Seq.{getD-append-add, getD-drop, getD-take, take-length, length-take-le, take-all, take-add, drop-at}
+use lib.Seq.{getD-append-add, getD-drop, getD-take, take-length, length-take-le, take-all, take-add, take-at, drop-at, drop-append-le, take-append-seam}
 use lib.Dec.{ltb}
 use borrow.Author.Tests.{ltb-true, ltb-false}
 use Rattle.texts.specs.Memory.{put}
@@ -79,3 +79,22 @@ module _ (b : List ℕ) (at have : ℕ) where
       sym (drop-at (take start b) (take (end - start) (drop start b)) start (length-take-le start b (omega arith)))
       ∙ ap (drop start) (sym (take-add start (end - start) b) ∙ ap (λ (i : ℕ). take i b) (sym k))
       ∙ rw (f, e) (ap (drop (min at (min have (length b)))) (take-min b have) ∙ drop-min)
+
+-- What is read behind what is held: the bytes before it stay.
+module _ (b : List ℕ) {at have : ℕ} (h : at ≤ have) where
+  pub held-read : (next : List ℕ) (k : ℕ) → have ≤ length b → take have next ≡ take have b
+      → heldOf next at (have + k) ≡ heldOf b at have ++ take k (drop have next)
+  unfolding heldOf
+  held-read next k l e =
+      rw (take-add have k next, e)
+      (drop-append-le at (take have b) (take k (drop have next)) (omega (arith, h, length-take-le have b l)))
+
+  -- the same of bytes that are given
+  pub held-put : (more : List ℕ) → have + length more ≤ length b → heldOf (put b have more) at (have + length more) ≡ heldOf b at have ++ more
+  unfolding put
+  held-put more l =
+      let k : length (take have b) ≡ have = length-take-le have b (omega arith) in
+      let p = append-assoc (take have b) more (drop (have + length more) b) in
+      held-read (put b have more) (length more) (omega arith) (ap (take have) p ∙ take-at (take have b) _ have k)
+      ∙ ap (λ (t : List ℕ). heldOf b at have ++ take (length more) t) (ap (drop have) p ∙ drop-at (take have b) _ have k)
+      ∙ ap (λ (t : List ℕ). heldOf b at have ++ t) (take-append-seam more (drop (have + length more) b))

@@ -6,3 +6,5 @@ pub mod Parts
 pub mod Buffer
 pub mod Steps
 pub mod Looped
+pub mod Turned
+pub mod Inputs

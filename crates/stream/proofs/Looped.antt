@@ -1,4 +1,4 @@
--- A program's loop prints what is stated for all of the input.
+-- A program's loop prints what is stated for all of the input: each of its turns is what a program may do. Assumes nothing.
 use Prim.Native.Nat.{ℕ, _<_}
 use mathlib.Core.List.{List, [], append-nil}
 use mathlib.Core.Bool.{true}

@@ -36,6 +36,13 @@ module _ (skip last : Bool) (s : List ℕ) where
       by true = line-le (take (newlineAt s) s)
       by false = omega arith
 
+pub part-size-le : (n : ℕ) (skip last : Bool) (s : List ℕ) → partSize n skip last s ≤ length s
+unfolding partSize
+part-size-le zero skip last s = omega arith
+part-size-le (suc n) skip last s =
+    let k = pieceSize skip last s in
+    omega (arith, size-le skip last s, length-drop k s, part-size-le n (pieceSkip skip s) last (drop k s))
+
 -- where no byte is done with, nothing is written and nothing changes
 still : (skip last : Bool) (s : List ℕ) → pieceSize skip last s ≡ 0 → (pieceText skip last s ≡ []) × (pieceSkip skip s ≡ skip)
 unfolding pieceSize pieceText pieceSkip due

@@ -3,17 +3,20 @@ use Prim.Native.Nat.{ℕ, _+_, _<_, _≤_, min}
 use mathlib.Core.List.{List, [], _++_}
 use mathlib.Core.Bool.{Bool, true, false, not}
 use mathlib.Core.Path.{_≡_, refl, ap, sym, _∙_}
+use native.Mathlib.Nat.{min-le-right}
 use native.Mathlib.Omega.{arith}
-use lib.ListN.{length, take, drop}
+use lib.ListN.{length, take, drop, length-drop}
 use lib.Seq.{drop-drop, take-append-seam, drop-nil}
 use lib.Dec.{eqb}
 use borrow.Author.Tests.{eq-eqb, ne-eqb, eqb-true}
 use Rattle.lines.specs.Line.{mostBytes}
 use Rattle.texts.specs.Memory.{put}
-use Rattle.stream.specs.Stream.{lineRoom, partOf, heldOf, stepPart, stepOf, bufferOf, textOf, Run, writes, linesIn}
+use Rattle.texts.proofs.Puts.{put-length}
+use Rattle.stream.specs.Stream.{partOf, heldOf, stepPart, stepOf, bufferOf, textOf, stepLines, Run, writes}
 use Rattle.stream.specs.declared.Part.{Part}
 use Rattle.stream.specs.declared.Held.{Held}
-use Rattle.stream.proofs.Buffer.{take-min}
+use Rattle.stream.proofs.Buffer.{take-min, length-held}
+use Rattle.stream.proofs.Parts.{part-size-le}
 use Rattle.stream.proofs.Stream.{held-short, held-none}
 
 pub not-both : false ≡ true → ⊥
@@ -101,10 +104,10 @@ module _ (n : ℕ) (b : List ℕ) (h : Held) where
             absurd (not-both g)
 
 -- the same as a caller has it
-pub room-to-read : {r : Held} (o b : List ℕ) (h : Held) → lineRoom ≤ length o → r ≡ stepOf (linesIn o) b h → r .reads ≡ true → r .have ≤ mostBytes
-room-to-read o b h k e f =
-    let g : stepOf (linesIn o) b h .reads ≡ true = ap (λ (q : Held). q .reads) (sym e) ∙ f in
-    omega (arith, reads-short (linesIn o) b h (omega arith) g, ap (λ (q : Held). q .have) e)
+pub room-to-read : {r : Held} (b : List ℕ) (h : Held) → r ≡ stepOf stepLines b h → r .reads ≡ true → r .have ≤ mostBytes
+room-to-read b h e f =
+    let g : stepOf stepLines b h .reads ≡ true = ap (λ (q : Held). q .reads) (sym e) ∙ f in
+    omega (arith, reads-short stepLines b h (omega arith) g, ap (λ (q : Held). q .have) e)
 
 module _ (n : ℕ) (b : List ℕ) (h : Held) where
   pub step-last : stepOf n b h .last ≡ h .last
@@ -118,3 +121,48 @@ module _ (n : ℕ) (b : List ℕ) (h : Held) where
   -- where all is done, nothing is held afterwards either
   pub step-done : 0 < n → stepOf n b h .done ≡ true → heldOf (bufferOf n b h) (stepOf n b h .at) (stepOf n b h .have) ≡ []
   step-done pos f = step-held n b h ∙ ap (drop (stepPart n b h .size)) (done-none n b h pos f .1) ∙ drop-nil (stepPart n b h .size)
+
+  pub buffer-length : length (bufferOf n b h) ≡ length b
+  unfolding bufferOf
+  buffer-length = by (eqb (stepPart n b h .size) 0) refl
+    where
+      by : (t : Bool) → eqb (stepPart n b h .size) 0 ≡ t → length (bufferOf n b h) ≡ length b
+      by true e =
+          let l = length-held b (h .at) (h .have) in
+          rw e (put-length b 0 (heldOf b (h .at) (h .have)) (omega (arith, l, min-le-right (h .have) (length b))))
+      by false e = rw e
+
+  -- as much less is held as is done with
+  pub held-length : length (heldOf (bufferOf n b h) (stepOf n b h .at) (stepOf n b h .have)) + stepPart n b h .size ≡ length (heldOf b (h .at) (h .have))
+  unfolding partOf
+  held-length =
+      let l = part-size-le n (h .skip) (h .last) (heldOf b (h .at) (h .have)) in
+      rw (step-held n b h, length-drop) (omega (arith, l))
+
+  -- more is to be read only before the end of the input, and behind what stands at the start
+  pub reads-open : stepOf n b h .reads ≡ true → (h .last ≡ false) × (stepOf n b h .at ≡ 0)
+  unfolding stepOf
+  reads-open f = by (eqb (stepPart n b h .size) 0) refl (h .last) refl f
+    where
+      by : (t : Bool) → eqb (stepPart n b h .size) 0 ≡ t → (l : Bool) → h .last ≡ l → stepOf n b h .reads ≡ true → (h .last ≡ false) × (stepOf n b h .at ≡ 0)
+      by true e false g f = (g, rw e)
+      by true e true g f =
+          let z : false ≡ true = rw (e, g) at f in
+          absurd (not-both z)
+      by false e l g f =
+          let z : false ≡ true = rw e at f in
+          absurd (not-both z)
+
+  -- what a step asks for: more, or the end, where it does with nothing
+  module _ (e : eqb (stepPart n b h .size) 0 ≡ true) where
+    pub idle-open : h .last ≡ false → stepOf n b h .reads ≡ true
+    unfolding stepOf
+    idle-open f = rw (e, f)
+
+    pub idle-last : h .last ≡ true → (stepOf n b h .reads ≡ false) × (stepOf n b h .done ≡ true)
+    unfolding stepOf
+    idle-last f = (rw (e, f), rw (e, f))
+
+  pub busy-quiet : eqb (stepPart n b h .size) 0 ≡ false → stepOf n b h .reads ≡ false
+  unfolding stepOf
+  busy-quiet e = rw e

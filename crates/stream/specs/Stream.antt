@@ -24,6 +24,14 @@ lineRoom = 312
 abbrev pub linesIn : List ℕ → ℕ
 linesIn o = length o / lineRoom
 
+-- how long the memory is that a step is lent, for the input and for the answers
+abbrev pub space : ℕ
+space = 65536
+
+-- and how many lines a step answers at most
+abbrev pub stepLines : ℕ
+stepLines = space / lineRoom
+
 -- whether s has the newline that ends its first line
 abbrev pub ended : List ℕ → Bool
 ended s = ltb (newlineAt s) (length s)

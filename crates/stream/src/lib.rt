@@ -7,12 +7,17 @@ ghost use Prim.Native.Nat.{_+_, _-_, _/_, _<_, _≤_, min};
 ghost use lib.Dec.{eqb};
 ghost use lib.ListN.{length};
 ghost use Rattle.texts.specs.Memory.{put};
-ghost use Rattle.stream.specs.Stream.{lineRoom, linesIn, pieceText, pieceOf, partText, partOf, heldOf, startOf, stepOf, bufferOf, textOf};
+ghost use Rattle.stream.specs.Stream.{lineRoom, linesIn, pieceText, pieceOf, partText, partOf, heldOf, startOf, stepOf, bufferOf, textOf, space, stepLines};
 ghost use Rattle.stream.specs.Printed.{digits, places, refusedText, answerLine};
 ghost use Rattle.lines.specs.Line.{writtenIn, lineAnswer};
 
-// The longest answer has 311 bytes; its newline follows.
+// No answer has more than 311 bytes; its newline follows.
 const LINE_ROOM: usize = 312;
+
+// What `step` is lent, for the input and for the answers: it holds more than the longest line and the longest answer.
+pub const SPACE: usize = 65536;
+
+pub type Space = [u8; SPACE];
 
 // Part of the input that is done with: `size` bytes of it, `used` bytes of answers, and whether the next byte belongs to a line
 // that is answered already.
@@ -58,7 +63,7 @@ fn digit_byte(d: usize) -> u8
 }
 
 // The low n digits of v from `at` on; answers the next place.
-fn put_digits(out: &mut [u8], at: usize, n: usize, v: usize) -> usize
+pub fn put_digits(out: &mut [u8], at: usize, n: usize, v: usize) -> usize
     requires { ⌜ at + n ≤ length (now out) ⌝ }
     ensures { λ r. ⌜ (r ≡ at + n) × (now (out .exit) ≡ put (now (out .entry)) at (digits n v)) ⌝ }
 {
@@ -245,11 +250,10 @@ pub fn start() -> Held
 
 // Answers lines of what is held. Where there is none to answer, what is held goes to the start of the buffer, so that there is room
 // to read more.
-pub fn step(buf: &mut [u8], out: &mut [u8], h: Held) -> Held
-    ensures { λ r. ⌜ (r ≡ stepOf (linesIn (now (out .entry))) (now (buf .entry)) h)
-        × (now (buf .exit) ≡ bufferOf (linesIn (now (out .entry))) (now (buf .entry)) h)
-        × (now (out .exit) ≡ put (now (out .entry)) 0 (textOf (linesIn (now (out .entry))) (now (buf .entry)) h))
-        × (r .at ≤ r .have) × (r .have ≤ length (now (buf .entry))) × (r .used ≤ length (now (out .entry))) ⌝ }
+pub fn step(buf: &mut Space, out: &mut Space, h: Held) -> Held
+    ensures { λ r. ⌜ (r ≡ stepOf stepLines (now (buf .entry)) h) × (now (buf .exit) ≡ bufferOf stepLines (now (buf .entry)) h)
+        × (now (out .exit) ≡ put (now (out .entry)) 0 (textOf stepLines (now (buf .entry)) h))
+        × (r .at ≤ r .have) × (r .have ≤ space) × (r .used ≤ space) ⌝ }
 {
     let at = h.at;
     let have = h.have;
@@ -266,7 +270,7 @@ pub fn step(buf: &mut [u8], out: &mut [u8], h: Held) -> Held
             done: h.last,
         };
     }
-    let end = least(have, buf.len());
+    let end = least(have, SPACE);
     Held {
         at: at + p.size,
         have: end,

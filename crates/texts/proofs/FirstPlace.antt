@@ -11,7 +11,7 @@ use lib.Seq.{getD-drop}
 use lib.Dec.{leb, eqb, leb·zero, leb·suc-zero, leb·suc-suc}
 use borrow.Author.Tests.{eqb-true, eq-eqb, ne-eqb, le-leb, leb-true, leb-false, not-true}
 use Rattle.values.specs.Value.{every}
-use Rattle.values.proofs.Bools.{both, and}
+use Rattle.values.proofs.Bools.{both}
 use Rattle.texts.specs.Text.{placeOf}
 
 module _ (b : ℕ) where
@@ -93,10 +93,6 @@ module _ (b : ℕ) where
   -- whether all bytes are others than b
   abbrev pub without : List ℕ → Bool
   without a = every (λ x. not (eqb x b)) a
-
-  pub without-both : (l m : List ℕ) → without l ≡ true → without m ≡ true → without (l ++ m) ≡ true
-  without-both [] m s t = t
-  without-both (x ∷ l) m s t = let h = both (not (eqb x b)) (without l) s in and (h .0) (without-both l m (h .1) t)
 
   -- then the first b is past them, and where b follows, right behind them
   pub place-past : (l m : List ℕ) → without l ≡ true → length l ≤ placeOf b (l ++ m)

@@ -23,8 +23,9 @@ use Rattle.calls.specs.declared.Row.the-variants.{Unary, Binary, Ternary, Cast}
 use Rattle.calls.specs.Table.{taken, together, takes}
 use Rattle.calls.specs.Refuse.{byteSize, judged}
 use Rattle.builtins.specs.declared.Answer.{Answer}
-use Rattle.builtins.specs.Fold.{answered, foldBy, foldOf}
+use Rattle.builtins.specs.Fold.{answered, foldOf}
 use Rattle.builtins.specs.Fold as Long
+use Rattle.builtins.proofs.Answers.{folds}
 use Rattle.shorts.specs.Shorts.{longOf}
 use Rattle.words.specs.Short.{isShort, isOf, cutOf, given, shortBy, answerBy}
 
@@ -105,11 +106,6 @@ module _ (n : ℕ) (k : Kind) (a b c : Value) (w : wellFormed a ≡ true) where
         passes3 p p p OneType (u .0) (alike3 .0) (alike3 .2) (u .1) (rw (alike3 .1) (u .1)) (rw (alike3 .3) (u .1)) (rw (alike3 .1, alike3 .3, itself (a .kind)))
 
 -- ---- the fold of a call that passes
-
-pub folds : (which : Builtin) (n : ℕ) (k : Kind) (a b c : Value) → judged (takes which) n k a b c ≡ 0
-    → foldOf (record { builtin = which; count = n; target = k; a = a; b = b; c = c }) ≡ Long.answerBy which k a b c
-unfolding foldOf
-folds which n k a b c e = ap (λ (m : ℕ). foldBy m (record { builtin = which; count = n; target = k; a = a; b = b; c = c })) e
 
 -- one value of the type at p, as an answer
 pub answered-given : (p : ℕ) (x : List ℕ) → answered (longOf p x) ≡ answerBy (given true p x)

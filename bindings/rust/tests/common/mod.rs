@@ -19,12 +19,8 @@ pub fn stored(program: &str) -> Vec<u8> {
 
 /// What a program prints for an input.
 pub fn printed_by(program: &str, input: &[u8]) -> Vec<u8> {
-    let mut child = Command::new(root().join("run"))
-        .arg(program)
-        .stdin(Stdio::piped())
-        .stdout(Stdio::piped())
-        .spawn()
-        .unwrap();
+    let mut child =
+        Command::new(root().join("run")).arg(program).stdin(Stdio::piped()).stdout(Stdio::piped()).spawn().unwrap();
     let mut stdin = child.stdin.take().unwrap();
     let input = input.to_vec();
     // a program may end before all is read
