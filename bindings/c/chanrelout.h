@@ -203,6 +203,48 @@ static inline size_t chanrelout_sort_count(uint64_t answer)
     return (size_t)(answer & 0xFFFFFFFF);
 }
 
+/* ---- two listings compared, line by line. A line's kind of difference is the first that applies. */
+
+enum chanrelout_difference {
+    CHANRELOUT_ALIKE = 0,
+    CHANRELOUT_DIFFERS_MISSING = 1, /* one listing has ended */
+    CHANRELOUT_DIFFERS_REFUSAL = 2, /* either line is refused */
+    CHANRELOUT_DIFFERS_TYPE = 3,    /* the types differ; a pair and a lone value do */
+    CHANRELOUT_DIFFERS_VALUE = 4,   /* some lane differs by more than NaN bits or a zero's sign */
+    CHANRELOUT_DIFFERS_NAN = 5,     /* only NaN bits or zero signs differ, at least one of the former */
+    CHANRELOUT_DIFFERS_ZERO = 6     /* only zero signs differ */
+};
+
+/* left, right  listings as chanrelout_sort takes them, of any number of lines.
+   kinds        where a number of enum chanrelout_difference is written for each line of the longer listing. It must not
+                overlap the listings.
+   kinds_len    how many entries it has. As many as the longer listing has bytes are always enough.
+   Answers a number that chanrelout_sort_refusal and chanrelout_sort_count take apart: refused in the order 15, 14, 8. */
+
+uint64_t chanrelout_diff(const uint8_t *left, size_t left_len, const uint8_t *right, size_t right_len, uint8_t *kinds,
+                         size_t kinds_len);
+
+/* Where the first line that differs stands: the right one, or the one that goes on where the other has ended, without
+   its newline. 0 where the listings are equal or one is refused. */
+
+uint64_t chanrelout_first_difference(const uint8_t *left, size_t left_len, const uint8_t *right, size_t right_len);
+
+/* Which listing it stands in: 0 neither, 1 left, 2 right. */
+static inline int chanrelout_difference_side(uint64_t place)
+{
+    return (int)(place >> 32);
+}
+
+static inline size_t chanrelout_difference_offset(uint64_t place)
+{
+    return (size_t)(place >> 16 & 0xFFFF);
+}
+
+static inline size_t chanrelout_difference_length(uint64_t place)
+{
+    return (size_t)(place & 0xFFFF);
+}
+
 /* ---- half conversion, both sides as bits: to the nearest, ties to the even one, and exact on the way back */
 
 uint16_t chanrelout_f32_to_f16(uint32_t bits);

@@ -74,5 +74,19 @@ int main(void)
     for (size_t i = 0; i < chanrelout_sort_count(answer); i++)
         printf(" %d", index[i]);
     putchar('\n');
+
+    /* The same listing baked again: which lines differ, how, and the first of them. */
+    const char *again = "f32:FFC00000\nrefused\t3\nf32:00000000\nf32:00000000\n";
+    const uint8_t *left = (const uint8_t *)listing, *right = (const uint8_t *)again;
+    uint8_t kinds[64];
+    answer = chanrelout_diff(left, strlen(listing), right, strlen(again), kinds, sizeof kinds);
+    if (chanrelout_sort_refusal(answer) != CHANRELOUT_ANSWERED)
+        return 1;
+    printf("%-16s", "kinds");
+    for (size_t i = 0; i < chanrelout_sort_count(answer); i++)
+        printf(" %d", kinds[i]);
+    uint64_t place = chanrelout_first_difference(left, strlen(listing), right, strlen(again));
+    printf("\n%-16s %d: %.*s\n", "first, in", chanrelout_difference_side(place),
+           (int)chanrelout_difference_length(place), again + chanrelout_difference_offset(place));
     return 0;
 }

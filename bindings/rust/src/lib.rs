@@ -18,13 +18,14 @@
 //! # Ok::<(), Refusal>(())
 //! ```
 //!
-//! Nothing here allocates but [`fold_line`], [`sort_listing`] and what prints. All of it may be called from several
+//! Nothing here allocates but [`fold_line`], [`sort_listing`], [`diff()`] and what prints. All of it may be called from several
 //! threads at once.
 
 #![warn(missing_docs)]
 
 mod builtin;
 mod call;
+mod diff;
 mod ffi;
 mod line;
 mod listing;
@@ -33,6 +34,7 @@ mod value;
 
 pub use builtin::Builtin;
 pub use call::{fold, fold_words, Answer, Call, ANSWER_WORDS, CALL_WORDS};
+pub use diff::{diff, first_difference, Difference, Differences, Kind};
 pub use line::{fold_line, fold_line_into, LONGEST_ANSWER};
 pub use listing::{sort_listing, sort_listing_into, LONGEST_LISTING, MOST_LINES};
 pub use refusal::Refusal;

@@ -10,7 +10,9 @@ ghost use Rattle.lines.specs.Line as text;
 ghost use Rattle.words.specs.Words.{valueAt, refusalIn, writtenIn};
 ghost use Rattle.order.specs.Order as order;
 ghost use Rattle.sorting.specs.Sorting.{sortedOf, indexIn};
-ghost use Rattle.chanrelout.specs.Number.{lineNumber, sortNumber};
+ghost use Rattle.diffs.specs.Diffs.{comparedIn, kindsIn};
+ghost use Rattle.diffs.specs.Places.{firstPlace};
+ghost use Rattle.chanrelout.specs.Number.{lineNumber, sortNumber, diffNumber, placeNumber};
 
 // Folds a line of 01 into its answer, without newlines. Answers the refusal's number times 2^32, or the length of what was written.
 #[no_mangle]
@@ -50,6 +52,27 @@ pub extern "C" fn chanrelout_sort(listing: &[u8], index: &mut [u16]) -> u64
 {
     let s = sorting::sort_listing(listing, index);
     number::sort_number(s)
+}
+
+// Writes the kind of each line of two listings, 0 where it is the same in both. Answers the refusal's number times 2^32, or how many lines the
+// longer listing has.
+#[no_mangle]
+pub extern "C" fn chanrelout_diff(left: &[u8], right: &[u8], kinds: &mut [u8]) -> u64
+    ensures { λ r. ⌜ (r ≡ diffNumber (comparedIn (length (now (kinds .entry))) (now (left .entry)) (now (right .entry))))
+        × (now (kinds .exit) ≡ put (now (kinds .entry)) 0 (kindsIn (length (now (kinds .entry))) (now (left .entry)) (now (right .entry)))) ⌝ }
+{
+    let c = diffs::compare_listings(left, right, kinds);
+    number::diff_number(c)
+}
+
+// Where the first line that differs stands: its listing, 1 left and 2 right, times 2^32, its place there times 2^16, and its length; 0 where
+// none differs or a listing is refused.
+#[no_mangle]
+pub extern "C" fn chanrelout_first_difference(left: &[u8], right: &[u8]) -> u64
+    ensures { λ r. ⌜ r ≡ placeNumber (firstPlace (now (left .entry)) (now (right .entry))) ⌝ }
+{
+    let p = diffs::first_place(left, right);
+    number::place_number(p)
 }
 
 // The half nearest to an f32, both as bits.

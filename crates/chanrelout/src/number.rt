@@ -1,9 +1,12 @@
 // A refusal, or how much there is of an answer, as one number.
+use diffs::Compared;
+use diffs::Place;
+use diffs::Side;
 use lines::LineAnswer;
 use sorting::Sorted;
 ghost use mathlib.Core.Path.{_≡_};
-ghost use Prim.Native.Nat.{_<_};
-ghost use Rattle.chanrelout.specs.Number.{refusalOrCount, lineNumber, sortNumber};
+ghost use Prim.Native.Nat.{_<_, _≤_};
+ghost use Rattle.chanrelout.specs.Number.{refusalOrCount, lineNumber, sortNumber, diffNumber, sideNumber, placeNumber};
 
 fn refusal_or_count(refusal: u8, n: usize) -> u64
     requires { ⌜ n < 4294967296 ⌝ }
@@ -24,4 +27,31 @@ pub fn sort_number(s: Sorted) -> u64
     ensures { λ r. ⌜ r ≡ sortNumber s ⌝ }
 {
     refusal_or_count(s.refusal, s.count)
+}
+
+pub fn diff_number(c: Compared) -> u64
+    requires { ⌜ c .count < 4294967296 ⌝ }
+    ensures { λ r. ⌜ r ≡ diffNumber c ⌝ }
+{
+    refusal_or_count(c.refusal, c.count)
+}
+
+fn side_number(s: Side) -> u64
+    ensures { λ r. ⌜ (r ≡ sideNumber s) × (r ≤ 2) ⌝ }
+{
+    match s {
+        Side::Neither => 0,
+        Side::Left => 1,
+        Side::Right => 2,
+    }
+}
+
+pub fn place_number(p: Place) -> u64
+    requires { ⌜ (p .at < 65536) × (p .len < 65536) ⌝ }
+    ensures { λ r. ⌜ r ≡ placeNumber p ⌝ }
+{
+    let side = p.side;
+    let at = p.at;
+    let len = p.len;
+    side_number(side) * 0x1_0000_0000 + (at as u64) * 0x1_0000 + len as u64
 }

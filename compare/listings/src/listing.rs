@@ -233,3 +233,101 @@ pub fn every_listing(reader: &Reader) -> Vec<u8> {
     Random(13).shuffle(&mut lines);
     lines.iter().flat_map(|line| line.bytes().chain([b'\n'])).collect()
 }
+
+/// A listing and one that came of it: lanes, lines and ends changed.
+pub fn random_pair(random: &mut Random, reader: &Reader) -> (Vec<u8>, Vec<u8>) {
+    let left = random_listing(random, reader);
+    let mut lines: Vec<Vec<u8>> = crate::difference::lines(&left).iter().map(|line| line.to_vec()).collect();
+    for _ in 0..random.below(8) {
+        if lines.is_empty() {
+            break;
+        }
+        let at = random.below(lines.len());
+        match random.below(8) {
+            0 => lines[at] = random_line(random, reader).into_bytes(),
+            1 => drop(lines.remove(at)),
+            2 => lines.insert(at, random_line(random, reader).into_bytes()),
+            3 => lines.truncate(at),
+            _ => lines[at] = lane_changed(random, reader, &lines[at]),
+        }
+    }
+    if random.below(25) == 0 && !lines.is_empty() {
+        let at = random.below(lines.len());
+        lines[at] = damaged(random, &String::from_utf8_lossy(&lines[at]));
+    }
+    let mut right = lines.join(&b'\n');
+    if random.below(8) > 0 && !lines.is_empty() {
+        right.push(b'\n');
+    }
+    if random.below(2) == 0 {
+        (left, right)
+    } else {
+        (right, left)
+    }
+}
+
+/// The line with one lane changed: the sign of it, or to another edge of its kind.
+fn lane_changed(random: &mut Random, reader: &Reader, line: &[u8]) -> Vec<u8> {
+    let text = String::from_utf8_lossy(line);
+    let (ty, lanes) = match text.split('\t').next().and_then(|value| value.split_once(':')) {
+        Some((ty, lanes)) => (reader.types.iter().find(|known| known.spelling == ty), lanes),
+        None => return line.to_vec(),
+    };
+    let ty = match ty {
+        Some(ty) => ty,
+        None => return line.to_vec(),
+    };
+    let mut lanes: Vec<u32> = match lanes.split(',').map(|lane| u32::from_str_radix(lane, 16)).collect() {
+        Ok(lanes) => lanes,
+        Err(_) => return line.to_vec(),
+    };
+    let at = random.below(lanes.len());
+    lanes[at] = match (random.below(2), ty.lane) {
+        (0, Lane::F32) => lanes[at] ^ 0x8000_0000,
+        (0, Lane::F16) => lanes[at] ^ 0x8000,
+        _ => *random.pick(edges(ty.lane)),
+    };
+    let mut changed = spelled(ty, &lanes).into_bytes();
+    changed.extend(text.split_once('\t').map_or(String::new(), |(_, second)| format!("\t{second}")).bytes());
+    changed
+}
+
+/// The two listings that the gate compares: lines of every type that are the same, lines of every kind of difference in
+/// every kind of lane, refusals on each side, and a right listing that goes on.
+pub fn every_pair(reader: &Reader) -> (Vec<u8>, Vec<u8>) {
+    let (mut left, mut right) = (Vec::new(), Vec::new());
+    let mut push = |l: String, r: String| {
+        left.push(l);
+        right.push(r);
+    };
+    for ty in &reader.types {
+        let edges = edges(ty.lane);
+        let value = |lane: u32, at: usize| {
+            let mut lanes = vec![edges[1]; ty.count];
+            lanes[at % ty.count] = lane;
+            spelled(ty, &lanes)
+        };
+        push(value(edges[0], 0), value(edges[0], 0));
+        for (i, two) in edges.windows(2).enumerate() {
+            // scalars at every edge; of the others a few, so that all stay within a listing
+            if ty.count == 1 || i % 7 == 0 {
+                push(value(two[0], i), value(two[1], i));
+            }
+        }
+        if let Some(second) = exponents(reader, ty) {
+            let pair =
+                |lane: u32, more: u32| format!("{}\t{}", value(lane, 0), spelled(second, &vec![more; second.count]));
+            push(pair(edges[0], 1), pair(edges[1], 1));
+            push(pair(edges[0], 1), pair(edges[0], 2));
+            push(pair(edges[0], 1), value(edges[0], 0));
+        }
+    }
+    push("refused\t3".into(), "refused\t03".into());
+    push("refused\t3".into(), "i32:00000000".into());
+    push("i32:00000000".into(), "refused\t11\t9".into());
+    push("refused\t4".into(), "refused\t4".into());
+    right.push("bool:1".into());
+    right.push("refused\t7".into());
+    let joined = |lines: &[String]| lines.iter().flat_map(|line| line.bytes().chain([b'\n'])).collect();
+    (joined(&left), joined(&right))
+}

@@ -29,6 +29,15 @@ impl Lane {
         matches!(self, Lane::F32 | Lane::F16)
     }
 
+    /// A float lane as an f32 of the same kind: zero, NaN or neither.
+    pub fn as_f32(self, bits: u32) -> Option<f32> {
+        match self {
+            Lane::F32 => Some(f32::from_bits(bits)),
+            Lane::F16 => Some(widened(bits)),
+            Lane::Bool | Lane::I32 | Lane::U32 => None,
+        }
+    }
+
     fn compare(self, a: u32, b: u32) -> Ordering {
         match self {
             Lane::Bool | Lane::U32 => a.cmp(&b),
@@ -161,10 +170,7 @@ impl Reader {
         if listing.len() > 32_768 {
             return b"refused\t15\n".to_vec();
         }
-        let mut lines: Vec<&[u8]> = listing.split(|&byte| byte == b'\n').collect();
-        if lines.last().map_or(false, |last| last.is_empty()) {
-            lines.pop();
-        }
+        let lines = crate::difference::lines(listing);
         if lines.len() > 512 {
             return b"refused\t17\n".to_vec();
         }

@@ -1,0 +1,7 @@
+pub mod KindTexts
+pub mod Parts
+pub mod Walk
+pub mod Refusals
+pub mod FirstLine
+pub mod AllParts
+pub mod FirstTold

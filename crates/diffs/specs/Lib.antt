@@ -1,0 +1,4 @@
+pub mod Diffs
+pub mod Text
+pub mod Places
+pub mod Laws

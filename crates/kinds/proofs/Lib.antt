@@ -1,0 +1,4 @@
+pub mod Lanes
+pub mod LaneKinds
+pub mod AnswerKinds
+pub mod Laws
