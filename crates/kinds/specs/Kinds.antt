@@ -40,7 +40,7 @@ kindWord ZeroSign = bytes "zero"
 abbrev pub normalFloat : Bool → ℕ → ℕ → ℕ → ℕ
 normalFloat nans h inf x = cond (nans && ltb inf (x % h)) (suc inf) (cond (eqb (x % h) 0) 0 x)
 
--- "i32, u32 and bool lanes" stay as they are
+-- bools and integers stay as they are
 unfoldable pub normalLane : Bool → Scalar → ℕ → ℕ
 normalLane nans Boolean x = x
 normalLane nans I32 x = x
