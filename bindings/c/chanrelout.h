@@ -30,6 +30,9 @@ enum chanrelout_refusal {
     CHANRELOUT_SIZES_DIFFER = 6,    /* bitcast between types of different sizes */
     CHANRELOUT_LINE_TOO_LONG = 7,   /* the line has more than 400 bytes */
     CHANRELOUT_NO_ROOM = 8,         /* the lent memory is too short for the answer */
+    CHANRELOUT_FAULTY_TYPE = 9,     /* of a value's text: the type is misspelled, or no colon stands behind it */
+    CHANRELOUT_FAULTY_LANES = 10,   /* a lane too few or too many */
+    CHANRELOUT_FAULTY_DIGIT = 11,   /* a digit that is none, too few or too many digits, or a bool above 1 */
     CHANRELOUT_NO_ANSWER_LINE = 14, /* a line of the listing is no answer line */
     CHANRELOUT_LISTING_TOO_LONG = 15, /* the listing has more than 32,768 bytes */
     CHANRELOUT_TOO_MANY_LINES = 17  /* the listing has more than 512 lines */
@@ -153,6 +156,39 @@ enum chanrelout_builtin {
     CHANRELOUT_UNPACK2X16UNORM,
     CHANRELOUT_UNPACK2X16FLOAT
 };
+
+/* ---- values as text, as lines spell them */
+
+/* text      a value's text.
+   text_len  its bytes.
+   value     where its 17 words are written, a struct chanrelout_value. It must not overlap text.
+   value_len how many words may be written there.
+   Answers a number that chanrelout_read_refusal and chanrelout_read_place take apart. A refusal leaves value as it was.
+   The refusals are those of faults, of which the leftmost is told, and CHANRELOUT_NO_ROOM below 17 words. */
+
+uint64_t chanrelout_read_value(const uint8_t *text, size_t text_len, uint64_t *value, size_t value_len);
+
+static inline enum chanrelout_refusal chanrelout_read_refusal(uint64_t answer)
+{
+    return (enum chanrelout_refusal)(answer >> 32);
+}
+
+/* The byte of the fault, counted from 1; 0 where there is none. */
+static inline size_t chanrelout_read_place(uint64_t answer)
+{
+    return (size_t)(answer & 0xFFFFFFFF);
+}
+
+/* value     the words of a struct chanrelout_value; words past the 17th are not looked at, and fewer are no value.
+   value_len how many words.
+   out       where its text is written, without a NUL. It must not overlap value.
+   out_len   how many bytes may be written there. CHANRELOUT_LONGEST_VALUE are always enough.
+   Answers a number that chanrelout_line_refusal and chanrelout_line_length take apart: refused are a value that is not
+   well formed (CHANRELOUT_BAD_VALUE) and too little room (CHANRELOUT_NO_ROOM), and then out stays as it was. */
+
+#define CHANRELOUT_LONGEST_VALUE 155
+
+uint64_t chanrelout_write_value(const uint64_t *value, size_t value_len, uint8_t *out, size_t out_len);
 
 /* ---- the one order of values: docs/ORDER.md. First by type, in the order of their numbers, then lane by lane from lane
    0: bools and integers by number, floats by IEEE 754's totalOrder, so that -0 stands before +0 and every NaN has its

@@ -1,4 +1,5 @@
-/* Packs a colour, unpacks it again, folds a line and puts values and lines in order: ./run builds and runs this. */
+/* Packs a colour, unpacks it again, folds a line, reads and writes a value and puts values and lines in order: ./run
+   builds and runs this. */
 
 #include "chanrelout.h"
 
@@ -58,6 +59,16 @@ int main(void)
     if (chanrelout_line_refusal(answer) != CHANRELOUT_ANSWERED)
         return 1;
     printf("%-16s %.*s\n", "frexp", (int)chanrelout_line_length(answer), out);
+
+    /* A value's text, read with the place of its fault, and written. */
+    const char *text = "vec2<f16>:3C00,400G";
+    struct chanrelout_value half;
+    answer = chanrelout_read_value((const uint8_t *)text, strlen(text), (uint64_t *)&half, sizeof half / 8);
+    printf("%-16s %d at byte %zu\n", "misspelled", chanrelout_read_refusal(answer), chanrelout_read_place(answer));
+    answer = chanrelout_write_value((const uint64_t *)&packed.first, sizeof packed.first / 8, (uint8_t *)out, sizeof out);
+    if (chanrelout_line_refusal(answer) != CHANRELOUT_ANSWERED)
+        return 1;
+    printf("%-16s %.*s\n", "packed, spelled", (int)chanrelout_line_length(answer), out);
 
     /* Every two values stand in one order, a NaN too. */
     const struct chanrelout_value one = {.type = CHANRELOUT_F32, .lanes = {bits_of(1.0f)}};

@@ -8,6 +8,7 @@
 //! let packed = fold(Builtin::Pack4x8unorm, &[colour])?.first;
 //! assert_eq!(packed, Value::from(0x0000_80FFu32));
 //! assert_eq!(packed.to_string(), "u32:000080FF");
+//! assert_eq!("u32:000080FG".parse::<Value>().map_err(|wrong| wrong.place), Err(12));
 //!
 //! assert_eq!(fold(Builtin::Min, &[Value::from(1), Value::from(1.0f32)]), Err(Refusal::TypesDiffer));
 //! assert_eq!(fold_line(b"frexp\tf32:00000001")?, "f32:3F000000\ti32:FFFFFF6C");
@@ -38,7 +39,7 @@ pub use diff::{diff, first_difference, Difference, Differences, Kind};
 pub use line::{fold_line, fold_line_into, LONGEST_ANSWER};
 pub use listing::{sort_listing, sort_listing_into, LONGEST_LISTING, MOST_LINES};
 pub use refusal::Refusal;
-pub use value::{BadValue, Scalar, Size, Type, Value, Width};
+pub use value::{BadValue, Fault, Misspelled, Scalar, Size, Type, Value, Width};
 
 /// The half nearest to an `f32`, both as bits: ties to the even one, infinity from halfway past the greatest half.
 /// A NaN gives 7E00.

@@ -1,10 +1,18 @@
-use crate::ffi;
-use std::{cmp::Ordering, error::Error, fmt, str::FromStr};
+use crate::{ffi, refusal::written};
+use std::{
+    cmp::Ordering,
+    error::Error,
+    fmt,
+    str::{self, FromStr},
+};
 
 /// A value's words: the number of its type and 16 lanes.
 type Words = [u64; VALUE_WORDS];
 pub(crate) const VALUE_WORDS: usize = 1 + LANES;
 const LANES: usize = 16;
+
+/// No value's text has more bytes.
+const LONGEST_VALUE: usize = 155;
 
 /// A scalar type.
 #[derive(Clone, Copy, Debug, PartialEq, Eq, Hash)]
@@ -50,25 +58,6 @@ const SIZES: [Size; 3] = [Size::Two, Size::Three, Size::Four];
 const WIDTHS: [Width; 2] = [Width::F32, Width::F16];
 
 impl Scalar {
-    fn name(self) -> &'static str {
-        match self {
-            Scalar::Bool => "bool",
-            Scalar::I32 => "i32",
-            Scalar::U32 => "u32",
-            Scalar::F32 => "f32",
-            Scalar::F16 => "f16",
-        }
-    }
-
-    /// How many hex digits spell a lane.
-    fn digits(self) -> usize {
-        match self {
-            Scalar::Bool => 1,
-            Scalar::F16 => 4,
-            Scalar::I32 | Scalar::U32 | Scalar::F32 => 8,
-        }
-    }
-
     /// The greatest lane.
     fn most(self) -> u32 {
         match self {
@@ -133,13 +122,11 @@ impl Type {
 }
 
 impl fmt::Display for Type {
+    /// As the WGSL text spells it, without spaces: what stands before the colon of its values.
     fn fmt(&self, f: &mut fmt::Formatter<'_>) -> fmt::Result {
-        let scalar = self.scalar().name();
-        match *self {
-            Type::Scalar(_) => f.write_str(scalar),
-            Type::Vector(n, _) => write!(f, "vec{}<{}>", n as u8, scalar),
-            Type::Matrix(c, r, _) => write!(f, "mat{}x{}<{}>", c as u8, r as u8, scalar),
-        }
+        let mut text = [0; LONGEST_VALUE];
+        let value = Value { ty: *self, lanes: [0; LANES] };
+        f.write_str(value.spell(&mut text).split(':').next().unwrap_or_default())
     }
 }
 
@@ -162,17 +149,50 @@ pub struct Value {
     lanes: [u32; LANES],
 }
 
-/// Lanes that are no value of a type, or a text that spells none.
+/// Lanes that are no value of a type, or a text that spells no type.
 #[derive(Clone, Copy, Debug, PartialEq, Eq)]
 pub struct BadValue;
 
 impl fmt::Display for BadValue {
     fn fmt(&self, f: &mut fmt::Formatter<'_>) -> fmt::Result {
-        f.write_str("not a value: a type, a colon, and as many lanes as it has, in upper-case hex, parted by commas")
+        f.write_str("not a value: as many lanes as the type has, a bool lane 0 or 1, an f16 lane below 65536")
     }
 }
 
 impl Error for BadValue {}
+
+/// What is wrong with a text that spells no value: the leftmost fault.
+#[derive(Clone, Copy, Debug, PartialEq, Eq, Hash)]
+pub enum Fault {
+    /// The type is misspelled, or no colon stands behind it.
+    Type,
+    /// A lane too few or too many.
+    Lanes,
+    /// A digit that is none, a digit too few or too many, or a bool above 1.
+    Digit,
+}
+
+/// A text that spells no value: what is wrong with it, and where.
+#[derive(Clone, Copy, Debug, PartialEq, Eq, Hash)]
+pub struct Misspelled {
+    /// What is wrong.
+    pub fault: Fault,
+    /// The byte at which it is, counted from 1. The byte after the text where something is missing at its end.
+    pub place: usize,
+}
+
+impl fmt::Display for Misspelled {
+    fn fmt(&self, f: &mut fmt::Formatter<'_>) -> fmt::Result {
+        let due = match self.fault {
+            Fault::Type => "a type and a colon",
+            Fault::Lanes => "as many lanes as the type has",
+            Fault::Digit => "an upper-case hex digit, or a comma behind a lane's last",
+        };
+        write!(f, "not a value: at byte {} {due} was expected", self.place)
+    }
+}
+
+impl Error for Misspelled {}
 
 impl Value {
     /// The value of a type with these lanes. There must be as many as the type has; a bool lane is 0 or 1, an f16 lane
@@ -205,6 +225,15 @@ impl Value {
     /// Its lanes, as bits.
     pub fn lanes(&self) -> &[u32] {
         &self.lanes[..self.ty.lane_count()]
+    }
+
+    /// Its text.
+    fn spell<'a>(&self, text: &'a mut [u8; LONGEST_VALUE]) -> &'a str {
+        let words = self.words();
+        // SAFETY: each pointer and length are those of a slice, and a shared and an exclusive one do not overlap.
+        let answer = unsafe { ffi::chanrelout_write_value(words.as_ptr(), words.len(), text.as_mut_ptr(), text.len()) };
+        let length = written(answer).expect("a value is well formed, and has room");
+        str::from_utf8(&text[..length]).expect("a value's text is ASCII")
     }
 
     pub(crate) fn words(&self) -> Words {
@@ -278,30 +307,25 @@ from_scalars! {
 impl fmt::Display for Value {
     /// As a line spells it: `vec2<f32>:3F800000,00000000`.
     fn fmt(&self, f: &mut fmt::Formatter<'_>) -> fmt::Result {
-        write!(f, "{}", self.ty)?;
-        for (i, lane) in self.lanes().iter().enumerate() {
-            let before = if i == 0 { ':' } else { ',' };
-            write!(f, "{}{:0digits$X}", before, lane, digits = self.ty.scalar().digits())?;
-        }
-        Ok(())
+        f.write_str(self.spell(&mut [0; LONGEST_VALUE]))
     }
 }
 
 impl FromStr for Value {
-    type Err = BadValue;
+    type Err = Misspelled;
 
     /// A value as a line spells it.
-    fn from_str(spelling: &str) -> Result<Value, BadValue> {
-        let (ty, digits) = spelling.split_once(':').ok_or(BadValue)?;
-        let ty: Type = ty.parse()?;
-        let lane = |digits: &str| match digits.len() == ty.scalar().digits() && digits.bytes().all(is_digit) {
-            true => u32::from_str_radix(digits, 16).map_err(|_| BadValue),
-            false => Err(BadValue),
+    fn from_str(text: &str) -> Result<Value, Misspelled> {
+        let mut words = [0; VALUE_WORDS];
+        // SAFETY: each pointer and length are those of a slice, and a shared and an exclusive one do not overlap.
+        let answer = unsafe { ffi::chanrelout_read_value(text.as_ptr(), text.len(), words.as_mut_ptr(), words.len()) };
+        let fault = match answer >> 32 {
+            0 => return Ok(Value::of_words(&words).expect("what is read is a value")),
+            9 => Fault::Type,
+            10 => Fault::Lanes,
+            11 => Fault::Digit,
+            number => unreachable!("a text is read with fault {number}"),
         };
-        Value::new(ty, &digits.split(',').map(lane).collect::<Result<Vec<_>, _>>()?)
+        Err(Misspelled { fault, place: (answer & 0xFFFF_FFFF) as usize })
     }
-}
-
-fn is_digit(byte: u8) -> bool {
-    matches!(byte, b'0'..=b'9' | b'A'..=b'F')
 }

@@ -1,31 +1,28 @@
--- Four lanes, cast as the program casts them, are the lanes that the bytes make: by the widths of the lanes, over their counts, which the equal byte sizes tie. Then there and back is the value again. Assumes nothing.
-use Prim.Native.Nat.{ℕ, zero, suc, _-_, _*_, _/_, _%_, _^_, _≤_, _<_}
+-- Four lanes, cast as the program casts them, are the lanes that the bytes make: by the widths of the lanes, over their counts, which the equal byte sizes tie. Assumes nothing.
+use Prim.Native.Nat.{ℕ, zero, suc, _*_, _/_, _%_, _^_, _≤_, _<_}
 use mathlib.Core.Bool.{Bool, true, false, false≢true}
 use mathlib.Core.List.{List, [], _∷_, map-id}
 use mathlib.Core.Path.{_≡_, refl, sym, ap, _∙_}
 use native.Mathlib.Omega.{arith}
 use borrow.Author.Tests.{ltb-true, lt-ltb}
 use lib.Dec.{ltb}
-use lib.ListN.{length, take, replicate, length-take}
-use lib.Seq.{take-at}
+use lib.ListN.{length, take, length-take}
 use Rattle.values.specs.declared.Scalar.{Scalar}
 use Rattle.values.specs.declared.Scalar.the-variants.{Boolean, I32, U32, F32, F16}
-use Rattle.values.specs.declared.Size.the-variants.{Two, Three, Four}
 use Rattle.values.specs.declared.Kind.{Kind}
 use Rattle.values.specs.declared.Kind.the-variants.{Empty, One, Vec, Mat}
 use Rattle.values.specs.declared.Value.{Value}
 use Rattle.values.specs.Value.{laneBits, scalarOf, laneCount, lanesOf, value}
-use Rattle.values.specs.Four.{low, four, isLanes}
+use Rattle.values.specs.Program.{low, four, isLanes}
 use Rattle.values.proofs.Bools.{both, and}
-use Rattle.values.proofs.Lanes.{lanes1-as}
+use Rattle.values.proofs.Lanes.{few, lanes1-as}
 use Rattle.values.proofs.Formed.{used-below, whole}
-use Rattle.calls.specs.declared.Taken.the-variants.{Numbers}
-use Rattle.calls.specs.Table.{among, taken}
-use Rattle.calls.specs.Passed.{PassedCast}
+use Rattle.calls.specs.Table.{Numbers, among, taken}
+use Rattle.calls.specs.Program.{PassedCast}
 use Rattle.builtins.specs.Bitcast.{laneBytes, bytesOf, ofBytes, bitcastOf}
-use Rattle.builtins.specs.Halves.{isHalf, halved, paired, pairedLane, recast}
-use Rattle.builtins.proofs.Lanewise.{in-lanes}
-use Rattle.builtins.proofs.Bytes.{below, halves, to-halves, of-halves, lanes-again, bytes-again, bytes-length, bytes-below, lanes-length}
+use Rattle.builtins.specs.Program.{isHalf, halved, paired, pairedLane, recast}
+use Rattle.builtins.proofs.Packed.{value-lanes}
+use Rattle.builtins.proofs.Bytes.{below, halves, to-halves, of-halves, lanes-again}
 
 -- ---- four lanes
 
@@ -89,13 +86,11 @@ module _ (a b c d : ℕ) where
 
 -- ---- values
 
-few : (k : Kind) → isLanes k ≡ true → laneCount k ≤ 4
-few (One s) t = omega arith
-few (Vec Two s) t = omega arith
-few (Vec Three s) t = omega arith
-few (Vec Four s) t = omega arith
-few Empty t = absurd (false≢true t)
-few (Mat c r w) t = absurd (false≢true t)
+in-lanes : (k : Kind) → taken Numbers k ≡ true → isLanes k ≡ true
+in-lanes (One s) t = refl
+in-lanes (Vec n s) t = refl
+in-lanes Empty t = absurd (false≢true t)
+in-lanes (Mat c r w) t = absurd (false≢true t)
 
 width : (s : Scalar) → among (I32 ∷ U32 ∷ F32 ∷ F16 ∷ []) s ≡ true → (laneBits s / 8 ≡ bytes (isHalf s)) × (2 ^ laneBits s ≡ 2 ^ (bytes (isHalf s) * 8))
 width I32 t = (refl, refl)
@@ -110,13 +105,9 @@ widths (Vec n s) t = width s t
 widths Empty t = absurd (false≢true t)
 widths (Mat c r w) t = absurd (false≢true t)
 
-lanes-of-value : (k : Kind) (xs : List ℕ) → length xs ≡ laneCount k → lanesOf (value k xs) ≡ xs
-unfolding value
-lanes-of-value k xs e = take-at xs (replicate (16 - length xs) 0) (laneCount k) e
-
 module _ (t : Kind) (v : Value) (l : length (v .lanes) ≡ 16) (p : PassedCast Numbers t v) where
   is : isLanes (v .kind) ≡ true
-  is = in-lanes (I32 ∷ U32 ∷ F32 ∷ F16 ∷ []) (v .kind) (p .value .alone)
+  is = in-lanes (v .kind) (p .value .alone)
 
   abbrev first : List ℕ
   first = take (laneCount (v .kind)) (four low (v .lanes))
@@ -126,7 +117,7 @@ module _ (t : Kind) (v : Value) (l : length (v .lanes) ≡ 16) (p : PassedCast N
 
   four-lanes : first ≡ lanesOf v
   four-lanes =
-      sym (lanes-of-value (v .kind) first first-length)
+      sym (value-lanes (v .kind) first first-length)
       ∙ ap lanesOf (lanes1-as (v .kind) (λ x. x) v l (p .value .formed) is refl ∙ ap (value (v .kind)) (map-id (lanesOf v)) ∙ whole v (p .value .formed) l)
 
   pub cast-value : value t (take (laneCount t) (recast (isHalf (scalarOf (v .kind))) (isHalf (scalarOf t)) (four low (v .lanes)))) ≡ bitcastOf t v
@@ -141,25 +132,7 @@ module _ (t : Kind) (v : Value) (l : length (v .lanes) ≡ 16) (p : PassedCast N
       let under : below (2 ^ (bytes g * 8)) first ≡ true =
       ap (λ (x : ℕ). below x first) (sym (wk .1)) ∙ ap (below (2 ^ laneBits (scalarOf k))) four-lanes ∙ used-below v (p .value .formed) in
       ap (value t)
-      (cast-four _ _ _ _ g h (laneCount k) (laneCount t) (few k is) (few t (in-lanes (I32 ∷ U32 ∷ F32 ∷ F16 ∷ []) t (p .target))) size under
+      (cast-four _ _ _ _ g h (laneCount k) (laneCount t) (few k is) (few t (in-lanes t (p .target))) size under
       ∙ ap (λ (x : ℕ). ofBytes x (laneCount t) (bytesOf (bytes g) first)) (sym (wt .0))
       ∙ ap (λ (x : ℕ). ofBytes (laneBytes t) (laneCount t) (bytesOf x first)) (sym (wk .0))
       ∙ ap (λ (xs : List ℕ). ofBytes (laneBytes t) (laneCount t) (bytesOf (laneBytes k) xs)) four-lanes)
-
-  -- to another type of the same size and back again
-  pub there-and-back : bitcastOf (v .kind) (bitcastOf t v) ≡ v
-  unfolding bitcastOf value
-  there-and-back =
-      let k = v .kind in
-      let xs = lanesOf v in
-      let bytes-there = bytesOf (laneBytes k) xs in
-      let wk = widths k (p .value .alone) in
-      let n : length xs ≡ laneCount k = sym (ap length four-lanes) ∙ first-length in
-      let count : length bytes-there ≡ laneCount t * laneBytes t = bytes-length (laneBytes k) xs ∙ ap (λ (m : ℕ). m * laneBytes k) n ∙ sym (p .size) in
-      let under : below (2 ^ (laneBytes k * 8)) xs ≡ true =
-      ap (λ (b : ℕ). below (2 ^ (b * 8)) xs) (wk .0) ∙ ap (λ (b : ℕ). below b xs) (sym (wk .1)) ∙ used-below v (p .value .formed) in
-      ap (λ (ys : List ℕ). value k (ofBytes (laneBytes k) (laneCount k) (bytesOf (laneBytes t) ys)))
-      (lanes-of-value t (ofBytes (laneBytes t) (laneCount t) bytes-there) (lanes-length (laneBytes t) (laneCount t) bytes-there))
-      ∙ ap (λ (ys : List ℕ). value k (ofBytes (laneBytes k) (laneCount k) ys)) (bytes-again (laneBytes t) (laneCount t) bytes-there count (bytes-below (laneBytes k) xs))
-      ∙ ap (value k) (lanes-again (laneBytes k) (laneCount k) xs n under)
-      ∙ whole v (p .value .formed) l

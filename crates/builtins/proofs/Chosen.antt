@@ -12,15 +12,13 @@ use Rattle.values.specs.declared.Kind.{Kind}
 use Rattle.values.specs.declared.Kind.the-variants.{Empty, One, Vec, Mat}
 use Rattle.values.specs.declared.Value.{Value}
 use Rattle.values.specs.Value.{laneCount, shaped, sameKind, lane, value, zip3, lanewise3}
-use Rattle.values.specs.Four.{isLanes}
+use Rattle.values.specs.Program.{isLanes}
 use Rattle.values.proofs.Bools.{both}
 use Rattle.values.proofs.Formed.{whole}
 use Rattle.values.proofs.Places.{same}
-use Rattle.calls.specs.declared.Together.the-variants.{Selectable}
-use Rattle.calls.specs.declared.Taken.the-variants.{Anything, Booleans}
-use Rattle.calls.specs.Passed.{Passed3}
+use Rattle.calls.specs.Table.{Selectable, Anything, Booleans, taken}
+use Rattle.calls.specs.Program.{Passed3}
 use Rattle.builtins.specs.Logical.{selectLane, selectOf}
-use Rattle.builtins.proofs.Lanewise.{in-lanes}
 
 spread-out : (x m n : ℕ) (l o : List ℕ) (s : Bool) → eqb x 0 ≡ s → length l ≡ m → length o ≡ m → zip3 selectLane (take n l) o (replicate m x) ≡ take n (cond s l o)
 spread-out x m zero l o s e h g = refl
@@ -32,6 +30,12 @@ spread-out x (suc m) (suc n) [] o s e h g = absurd (omega arith)
 spread-out x (suc m) (suc n) (a ∷ l) [] s e h g = absurd (omega arith)
 spread-out x (suc m) (suc n) (a ∷ l) (b ∷ o) true e h g = cc (e, spread-out x m n l o true e (omega arith) (omega arith))
 spread-out x (suc m) (suc n) (a ∷ l) (b ∷ o) false e h g = cc (e, spread-out x m n l o false e (omega arith) (omega arith))
+
+in-lanes : (k : Kind) → taken Booleans k ≡ true → isLanes k ≡ true
+in-lanes (One s) h = refl
+in-lanes (Vec n s) h = refl
+in-lanes Empty h = absurd (false≢true h)
+in-lanes (Mat c r w) h = absurd (false≢true h)
 
 has-lanes : (k : Kind) → isLanes (shaped Boolean k) ≡ true → isLanes k ≡ true
 has-lanes (One s) h = refl
@@ -62,4 +66,4 @@ module _ {f t c : Value} (p : Passed3 Anything Anything Booleans Selectable f t 
   pub lanes-to-choose : sameKind (c .kind) (One Boolean) ≡ false → isLanes (f .kind) ≡ true
   lanes-to-choose e =
       let shape : sameKind (c .kind) (shaped Boolean (f .kind)) ≡ true = rw e at (both (sameKind (f .kind) (t .kind)) (sameKind (c .kind) (One Boolean) || sameKind (c .kind) (shaped Boolean (f .kind))) (p .joint) .1) in
-      has-lanes (f .kind) (rw (same {k = c .kind} {l = shaped Boolean (f .kind)} shape) at (in-lanes (Boolean ∷ []) (c .kind) (p .third .alone)))
+      has-lanes (f .kind) (rw (same {k = c .kind} {l = shaped Boolean (f .kind)} shape) at (in-lanes (c .kind) (p .third .alone)))

@@ -14,7 +14,8 @@ use Rattle.calls.specs.Refuse.{refusalOf}
 use Rattle.builtins.specs.declared.Answer.{Answer}
 use Rattle.values.specs.Value.{scalarOf, emptyValue, lanewise, lanewise2, lanewise3}
 use Rattle.builtins.specs.Logical.{allOf, anyOf, selectOf}
-use Rattle.numeric.specs.Numeric.{absLane, signLane, leadingLane, onesLane, trailingLane, minLane, maxLane, clampLane, saturateLane, stepLane}
+use Rattle.numeric.specs.Numeric.{absLane, signLane, leadingLane, onesLane, trailingLane}
+use Rattle.limits.specs.Limits.{minLane, maxLane, clampLane, saturateLane, stepLane}
 use Rattle.builtins.specs.Numeric.{crossOf, dotOf, transposeOf}
 use Rattle.exponent.specs.Exponent.{ldexpLane}
 use Rattle.packing.specs.Lanes.{lowByte, extended, plain}

@@ -1,9 +1,8 @@
 pub mod Logical
 pub mod Numeric
-pub mod Columns
 pub mod Exponent
 pub mod Bitcast
-pub mod Halves
 pub mod Pack
 pub mod Fold
-pub mod Formats
+pub mod Words
+pub mod Program

@@ -5,7 +5,7 @@ use Rattle.values.specs.declared.Kind.{Kind}
 use Rattle.values.specs.declared.Kind.the-variants.{Empty, One, Vec, Mat}
 use Rattle.values.specs.declared.Value.{Value}
 use Rattle.values.specs.Value.{sizeOf, scalarOf, laneCount, lane, value}
-use Rattle.numeric.specs.Numeric.{crossLane, dotLane}
+use Rattle.products.specs.Products.{crossLane, dotLane}
 
 -- ai bj - aj bi
 abbrev pub crossed : Value → Value → ℕ → ℕ → ℕ

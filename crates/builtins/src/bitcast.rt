@@ -1,14 +1,16 @@
-// bitcast of a value: the lanes are in lanes.rt.
-use crate::Answer;
-use calls::Taken;
-use values::Kind;
+// bitcast: of four lanes, by the widths of both types' lanes.
+use crate::Outcome;
+use calls::Builtin;
+use calls::table::Shape;
 use values::Scalar;
-use values::Value;
 ghost use mathlib.Core.Path.{_≡_};
-ghost use Rattle.calls.specs.Passed.{PassedCast};
-ghost use Rattle.builtins.specs.Bitcast.{bitcastOf};
-ghost use Rattle.builtins.specs.Halves.{isHalf};
-ghost use Rattle.builtins.specs.Fold.{answered};
+ghost use Prim.Native.Nat.{_≤_};
+ghost use lib.Dec.{eqb};
+ghost use lib.ListN.{length, getD};
+ghost use Rattle.values.specs.Value.{emptyValue};
+ghost use Rattle.calls.specs.Table.{takes};
+ghost use Rattle.calls.specs.Program.{typesOf, judgedIn, First};
+ghost use Rattle.builtins.specs.Program.{isHalf, outcome};
 
 fn is_half(s: Scalar) -> bool
     ensures { λ r. ⌜ r ≡ isHalf s ⌝ }
@@ -22,13 +24,16 @@ fn is_half(s: Scalar) -> bool
     }
 }
 
-pub fn bitcast(t: Kind, v: Value) -> Answer
-    requires { ⌜ PassedCast Taken.Numbers t v ⌝ }
-    ensures { λ r. ⌜ r ≡ answered (bitcastOf t v) ⌝ }
+pub fn bitcast(w: &[u64], n: u64, p: u64, set: u64, x: [u32; 4]) -> Outcome
+    requires { ⌜ First (now w) p × (set ≡ typesOf (takes Builtin.Bitcast)) × (3 ≤ length (now w)) ⌝ }
+    ensures { λ r. ⌜ r ≡ outcome Builtin.Bitcast (eqb (judgedIn Shape.Casting set n (now (w .entry))) 0) (getD (now (w .entry)) 2 0) p x emptyValue emptyValue ⌝ }
 {
-    let k = v.kind;
-    let l = v.lanes;
-    let from = is_half(values::scalar_of(k));
-    let to = is_half(values::scalar_of(t));
-    crate::answered_lanes(t, crate::lanes::recast(from, to, values::cut(l)))
+    let t = words::types::known(w[2]);
+    let from = is_half(words::types::scalar_at(p));
+    let to = is_half(words::types::scalar_at(t));
+    crate::given(
+        calls::tests::casting(w, n, p, set),
+        t,
+        crate::lanes::recast(from, to, x),
+    )
 }

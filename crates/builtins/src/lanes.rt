@@ -1,8 +1,8 @@
 // Lanes of select and bitcast, on four of 32 bits.
 ghost use mathlib.Core.Path.{_≡_};
-ghost use Rattle.values.specs.Four.{four3};
+ghost use Rattle.values.specs.Program.{four3};
 ghost use Rattle.builtins.specs.Logical.{selectLane};
-ghost use Rattle.builtins.specs.Halves.{halved, paired, pairedLane, recast};
+ghost use Rattle.builtins.specs.Program.{halved, paired, pairedLane, recast};
 
 fn select_lane(f: u32, t: u32, c: u32) -> u32
     ensures { λ r. ⌜ r ≡ selectLane f t c ⌝ }

@@ -1,6 +1,6 @@
-// What a call gives. What it means is in specs/: `foldOf` gives the answer of every call.
+// What a call gives: of a call of words, the words of its answer. What it means is in specs/: `foldOf` gives the answer of every call.
 mod bitcast;
-pub mod lanes;
+mod lanes;
 mod logical;
 mod matrix;
 mod numbers;
@@ -10,17 +10,19 @@ mod powers;
 mod vectors;
 
 use calls::Builtin;
-use calls::Call;
 use packing::Coding8;
 use packing::Coding16;
-use values::Kind;
 use values::Value;
 ghost use mathlib.Core.Path.{_≡_};
-ghost use lib.ListN.{take};
-ghost use Rattle.values.specs.Value.{laneCount, value};
+ghost use Prim.Native.Nat.{_≤_};
+ghost use lib.Dec.{eqb};
+ghost use lib.ListN.{length, getD};
+ghost use Rattle.buffers.specs.Memory.{put};
+ghost use Rattle.words.specs.Words.{valueAt};
 ghost use Rattle.calls.specs.Table.{takes};
-ghost use Rattle.calls.specs.Refuse.{arity, judged, refusalOf};
-ghost use Rattle.builtins.specs.Fold.{refused, answered, answeredTwice, answerBy, foldOf};
+ghost use Rattle.calls.specs.Program.{shapeOf, typesOf, judgedIn, First};
+ghost use Rattle.builtins.specs.Program.{given, givenOne, givenTwo, outcome, answerIn, Told};
+ghost use Rattle.builtins.specs.Words.{refusalIn, writtenIn};
 
 // `refusal` is 01's number, 0 where the call is answered. Only frexp has a second value.
 pub struct Answer {
@@ -29,114 +31,151 @@ pub struct Answer {
     pub second: Value,
 }
 
-// ---- answers
+// ---- arms
 
-pub fn refused(n: u8) -> Answer
-    ensures { λ r. ⌜ r ≡ refused n ⌝ }
+// What the arm of a builtin works out of a call whose first value is a scalar or a vector: whether the call passes, and two values, each by the place of its type and four
+// lanes. Only frexp has a second one, its exponents.
+pub struct Outcome {
+    pub passes: bool,
+    pub first: u64,
+    pub lanes: [u32; 4],
+    pub second: u64,
+    pub exponents: [u32; 4],
+}
+
+fn given(ok: bool, p: u64, x: [u32; 4]) -> Outcome
+    ensures { λ r. ⌜ r ≡ given ok p x ⌝ }
 {
-    let none = values::empty();
-    Answer {
-        refusal: n,
-        first: none,
-        second: none,
+    Outcome {
+        passes: ok,
+        first: p,
+        lanes: x,
+        second: 0,
+        exponents: [0; 4],
     }
 }
 
-fn answered(v: Value) -> Answer
-    ensures { λ r. ⌜ r ≡ answered v ⌝ }
+fn given_one(ok: bool, p: u64, x: u32) -> Outcome
+    ensures { λ r. ⌜ r ≡ givenOne ok p x ⌝ }
 {
-    let none = values::empty();
-    Answer {
-        refusal: 0,
-        first: v,
-        second: none,
-    }
+    given(ok, p, [x, 0, 0, 0])
 }
 
 // frexp's.
-fn answered_twice(fraction: Value, exponent: Value) -> Answer
-    ensures { λ r. ⌜ r ≡ answeredTwice fraction exponent ⌝ }
+fn given_two(ok: bool, p: u64, x: [u32; 4], q: u64, y: [u32; 4]) -> Outcome
+    ensures { λ r. ⌜ r ≡ givenTwo ok p x q y ⌝ }
 {
-    Answer {
-        refusal: 0,
-        first: fraction,
-        second: exponent,
+    Outcome {
+        passes: ok,
+        first: p,
+        lanes: x,
+        second: q,
+        exponents: y,
     }
 }
 
-// The answer of a lane by lane builtin.
-fn answered_lanes(k: Kind, x: [u32; 4]) -> Answer
-    ensures { λ r. ⌜ r ≡ answered (value k (take (laneCount k) x)) ⌝ }
+// The arm of each builtin. The one jump comes first; behind it each arm tests the call by the shape of its row and by `set`, the types of the row.
+fn arm(which: Builtin, set: u64, w: &[u64], p: u64, x: [u32; 4]) -> Outcome
+    requires { ⌜ (3 ≤ length (now w)) × First (now w) p × (p ≤ 20) × (set ≡ typesOf (takes which)) ⌝ }
+    ensures { λ r. ⌜ r ≡ outcome which (eqb (judgedIn (shapeOf (takes which)) (typesOf (takes which)) (getD (now (w .entry)) 1 0) (now (w .entry))) 0)
+        (getD (now (w .entry)) 2 0) p x (valueAt (now (w .entry)) 20) (valueAt (now (w .entry)) 37) ⌝ }
 {
-    answered(values::of_lanes(k, x))
-}
-
-// What its builtin makes of a call that is not refused.
-fn answer_of(which: Builtin, t: Kind, a: Value, b: Value, c: Value) -> Answer
-    requires { ⌜ judged (takes which) (arity (takes which)) t a b c ≡ 0 ⌝ }
-    ensures { λ r. ⌜ r ≡ answerBy which t a b c ⌝ }
-{
+    let n = w[1];
     match which {
-        Builtin::All => logical::all(a),
-        Builtin::Any => logical::any(a),
-        Builtin::Select => logical::select(a, b, c),
-        Builtin::Abs => numbers::abs(a),
-        Builtin::Sign => numbers::sign(a),
-        Builtin::CountLeadingZeros => numbers::count_leading_zeros(a),
-        Builtin::CountOneBits => numbers::count_one_bits(a),
-        Builtin::CountTrailingZeros => numbers::count_trailing_zeros(a),
-        Builtin::Min => order::min(a, b),
-        Builtin::Max => order::max(a, b),
-        Builtin::Clamp => order::clamp(a, b, c),
-        Builtin::Saturate => order::saturate(a),
-        Builtin::Step => order::step(a, b),
-        Builtin::Cross => vectors::cross(a, b),
-        Builtin::Dot => vectors::dot(a, b),
-        Builtin::Transpose => matrix::transpose(a),
-        Builtin::Frexp => powers::frexp(a),
-        Builtin::Ldexp => powers::ldexp(a, b),
-        Builtin::Bitcast => bitcast::bitcast(t, a),
-        Builtin::Pack4x8snorm => pack::pack8(Coding8::Snorm, a),
-        Builtin::Pack4x8unorm => pack::pack8(Coding8::Unorm, a),
-        Builtin::Pack4xI8 => pack::pack8(Coding8::Signed, a),
-        Builtin::Pack4xI8Clamp => pack::fill(a),
-        Builtin::Pack4xU8 => pack::pack8(Coding8::Unsigned, a),
-        Builtin::Pack4xU8Clamp => pack::pack8(Coding8::Unsigned, a),
-        Builtin::Pack2x16snorm => pack::pack16(Coding16::Snorm, a),
-        Builtin::Pack2x16unorm => pack::pack16(Coding16::Unorm, a),
-        Builtin::Pack2x16float => pack::pack16(Coding16::Float, a),
-        Builtin::Unpack4x8snorm => pack::unpack8(Coding8::Snorm, a),
-        Builtin::Unpack4x8unorm => pack::unpack8(Coding8::Unorm, a),
-        Builtin::Unpack4xI8 => pack::unpack8(Coding8::Signed, a),
-        Builtin::Unpack4xU8 => pack::unpack8(Coding8::Unsigned, a),
-        Builtin::Unpack2x16snorm => pack::unpack16(Coding16::Snorm, a),
-        Builtin::Unpack2x16unorm => pack::unpack16(Coding16::Unorm, a),
-        Builtin::Unpack2x16float => pack::unpack16(Coding16::Float, a),
-        Builtin::Unknown => refused(1),
+        Builtin::All => logical::all(w, n, p, set, x),
+        Builtin::Any => logical::any(w, n, p, set, x),
+        Builtin::Select => logical::select(w, n, p, set, x),
+        Builtin::Abs => numbers::abs(w, n, p, set, x),
+        Builtin::Sign => numbers::sign(w, n, p, set, x),
+        Builtin::CountLeadingZeros => numbers::count_leading_zeros(w, n, p, set, x),
+        Builtin::CountOneBits => numbers::count_one_bits(w, n, p, set, x),
+        Builtin::CountTrailingZeros => numbers::count_trailing_zeros(w, n, p, set, x),
+        Builtin::Min => order::min(w, n, p, set, x),
+        Builtin::Max => order::max(w, n, p, set, x),
+        Builtin::Clamp => order::clamp(w, n, p, set, x),
+        Builtin::Saturate => order::saturate(w, n, p, set, x),
+        Builtin::Step => order::step(w, n, p, set, x),
+        Builtin::Cross => vectors::cross(w, n, p, set, x),
+        Builtin::Dot => vectors::dot(w, n, p, set, x),
+        Builtin::Transpose => given(calls::tests::one_value(w, n, p, set), p, x),
+        Builtin::Frexp => powers::frexp(w, n, p, set, x),
+        Builtin::Ldexp => powers::ldexp(w, n, p, set, x),
+        Builtin::Bitcast => bitcast::bitcast(w, n, p, set, x),
+        Builtin::Pack4x8snorm => pack::pack8(w, n, p, set, Coding8::Snorm, x),
+        Builtin::Pack4x8unorm => pack::pack8(w, n, p, set, Coding8::Unorm, x),
+        Builtin::Pack4xI8 => pack::pack8(w, n, p, set, Coding8::Signed, x),
+        Builtin::Pack4xI8Clamp => pack::pack_filling(w, n, p, set, x),
+        Builtin::Pack4xU8 => pack::pack8(w, n, p, set, Coding8::Unsigned, x),
+        Builtin::Pack4xU8Clamp => pack::pack8(w, n, p, set, Coding8::Unsigned, x),
+        Builtin::Pack2x16snorm => pack::pack16(w, n, p, set, Coding16::Snorm, x),
+        Builtin::Pack2x16unorm => pack::pack16(w, n, p, set, Coding16::Unorm, x),
+        Builtin::Pack2x16float => pack::pack16(w, n, p, set, Coding16::Float, x),
+        Builtin::Unpack4x8snorm => pack::unpack8(w, n, p, set, Coding8::Snorm, VEC4_F32, x),
+        Builtin::Unpack4x8unorm => pack::unpack8(w, n, p, set, Coding8::Unorm, VEC4_F32, x),
+        Builtin::Unpack4xI8 => pack::unpack8(w, n, p, set, Coding8::Signed, VEC4_I32, x),
+        Builtin::Unpack4xU8 => pack::unpack8(w, n, p, set, Coding8::Unsigned, VEC4_U32, x),
+        Builtin::Unpack2x16snorm => pack::unpack16(w, n, p, set, Coding16::Snorm, x),
+        Builtin::Unpack2x16unorm => pack::unpack16(w, n, p, set, Coding16::Unorm, x),
+        Builtin::Unpack2x16float => pack::unpack16(w, n, p, set, Coding16::Float, x),
+        Builtin::Unknown => given(false, p, x),
     }
 }
 
-// The answer of a call that is not refused.
-fn answer_call(call: Call) -> Answer
-    requires { ⌜ refusalOf call ≡ 0 ⌝ }
-    ensures { λ r. ⌜ r ≡ answerBy (call .builtin) (call .target) (call .a) (call .b) (call .c) ⌝ }
+// Places of types that arms answer with.
+const BOOL: u64 = 1;
+
+const U32: u64 = 3;
+
+const VEC2_F32: u64 = 9;
+
+const VEC4_I32: u64 = 17;
+
+const VEC4_U32: u64 = 18;
+
+const VEC4_F32: u64 = 19;
+
+// The last place of a scalar or a vector: past it stand the matrices.
+const LAST_VECTOR: u64 = 20;
+
+// ---- calls
+
+// An answer's two values, where there is room for them.
+fn put_answer(out: &mut [u64], a: Outcome) -> u8
+    requires { ⌜ (a .first ≤ 20) × (a .second ≤ 20) ⌝ }
+    ensures { λ r. ⌜ Told (answerIn a) (now (out .entry)) r (now (out .exit)) ⌝ }
 {
-    let which = call.builtin;
-    let t = call.target;
-    let a = call.a;
-    let b = call.b;
-    let c = call.c;
-    answer_of(which, t, a, b, c)
+    if out.len() < 34 {
+        return 8;
+    }
+    let x = a.lanes;
+    let y = a.exponents;
+    words::put_lanes(out, 0, a.first, x);
+    words::put_lanes(out, 17, a.second, y);
+    0
 }
 
-// What a call gives, whatever its fields hold: its refusal, or its builtin's answer.
-pub fn fold(call: Call) -> Answer
-    ensures { λ r. ⌜ r ≡ foldOf call ⌝ }
+// Folds a call of words into the words of its answer. Answers the refusal's number, 0 where there is none.
+pub fn fold(w: &[u64], out: &mut [u64]) -> u8
+    ensures { λ r. ⌜ (r ≡ refusalIn (length (now (out .entry))) (now (w .entry)))
+        × (now (out .exit) ≡ put (now (out .entry)) 0 (writtenIn (length (now (out .entry))) (now (w .entry)))) ⌝ }
 {
-    let n = calls::refusal_of(call);
-    if n == 0 {
-        answer_call(call)
-    } else {
-        refused(n)
+    if !words::formed_at(w, 3) {
+        return calls::refusal_of(w);
     }
+    let p = w[3];
+    if p > LAST_VECTOR {
+        return matrix::fold(w, p, out);
+    }
+    let i = w[0];
+    let a = arm(
+        calls::builtin_at(i),
+        calls::set_of(i),
+        w,
+        p,
+        words::cut_at(w, 3),
+    );
+    if !a.passes {
+        return calls::refusal_of(w);
+    }
+    put_answer(out, a)
 }

@@ -1,35 +1,24 @@
 // all, any and select.
-use crate::Answer;
-use calls::Taken;
-use calls::Together;
-use values::Kind;
-use values::Scalar;
-use values::Value;
+use crate::Outcome;
+use calls::Builtin;
+use calls::table::Shape;
 ghost use mathlib.Core.Path.{_≡_};
-ghost use mathlib.Core.Bool.{true, cond};
-ghost use mathlib.Core.List.{[], _∷_};
-ghost use Prim.Native.Nat.{_≤_};
 ghost use lib.Dec.{eqb};
 ghost use lib.ListN.{take};
-ghost use Rattle.values.specs.Value.{value, every, wellFormed, lanewise3};
-ghost use Rattle.values.specs.Four.{isLanes};
-ghost use Rattle.calls.specs.Passed.{Passed3};
-ghost use Rattle.builtins.specs.Logical.{flag, allOf, anyOf, selectLane, selectOf};
-ghost use Rattle.builtins.specs.Fold.{answered};
+ghost use Rattle.values.specs.Value.{emptyValue, every};
+ghost use Rattle.words.specs.Words.{valueAt};
+ghost use Rattle.calls.specs.Program.{judgedIn, First};
+ghost use Rattle.builtins.specs.Logical.{flag};
+ghost use Rattle.builtins.specs.Program.{conditionOf, outcome};
 
-// Whether each of the first n lanes is x.
-fn each_is(lanes: [u64; 16], n: usize, x: u64) -> bool
-    requires { ⌜ n ≤ 16 ⌝ }
-    ensures { λ r. ⌜ r ≡ every (λ y. eqb y x) (take n lanes) ⌝ }
+// Whether each of the first n lanes is v.
+fn each_is(n: usize, x: [u32; 4], v: u32) -> bool
+    ensures { λ r. ⌜ r ≡ every (λ y. eqb y v) (take n x) ⌝ }
 {
-    let mut i = 0;
-    while i < n {
-        if lanes[i] != x {
-            return false;
-        }
-        i += 1;
-    }
-    true
+    ((x[0] == v) | (n < 1))
+        & ((x[1] == v) | (n < 2))
+        & ((x[2] == v) | (n < 3))
+        & ((x[3] == v) | (n < 4))
 }
 
 fn flag_of(b: bool) -> u32
@@ -38,61 +27,47 @@ fn flag_of(b: bool) -> u32
     if b { 1 } else { 0 }
 }
 
-fn truth(b: bool) -> Value
-    ensures { λ r. ⌜ r ≡ value (Kind.One Scalar.Boolean) (flag b ∷ []) ⌝ }
+// The lanes of the condition, which stands third. A scalar one holds for every lane.
+fn condition(w: &[u64]) -> [u32; 4]
+    ensures { λ r. ⌜ r ≡ conditionOf (valueAt (now (w .entry)) 37) ⌝ }
 {
-    values::of_lanes(Kind::One(Scalar::Boolean), [flag_of(b), 0, 0, 0])
+    let x = words::cut_at(w, 37);
+    if words::place_at(w, 37) == crate::BOOL {
+        [x[0], x[0], x[0], x[0]]
+    } else {
+        x
+    }
 }
 
-pub fn all(v: Value) -> Answer
-    ensures { λ r. ⌜ r ≡ answered (allOf v) ⌝ }
+pub fn all(w: &[u64], n: u64, p: u64, set: u64, x: [u32; 4]) -> Outcome
+    requires { ⌜ First (now w) p ⌝ }
+    ensures { λ r. ⌜ r ≡ outcome Builtin.All (eqb (judgedIn Shape.OneValue set n (now (w .entry))) 0) 0 p x emptyValue emptyValue ⌝ }
 {
-    let k = v.kind;
-    let l = v.lanes;
-    crate::answered(truth(each_is(l, values::lane_count(k), 1)))
-}
-
-pub fn any(v: Value) -> Answer
-    ensures { λ r. ⌜ r ≡ answered (anyOf v) ⌝ }
-{
-    let k = v.kind;
-    let l = v.lanes;
-    crate::answered(truth(!each_is(l, values::lane_count(k), 0)))
-}
-
-// ---- select
-
-// One of two whole values.
-fn either(f: Value, t: Value, x: u64) -> Value
-    ensures { λ r. ⌜ r ≡ cond (eqb x 0) f t ⌝ }
-{
-    if x == 0 { f } else { t }
-}
-
-fn select_lanes(f: Value, t: Value, c: Value) -> Value
-    requires { ⌜ (isLanes (f .kind) ≡ true) × ((wellFormed f ≡ true) × ((wellFormed t ≡ true) × (wellFormed c ≡ true))) ⌝ }
-    ensures { λ r. ⌜ r ≡ lanewise3 selectLane f t c ⌝ }
-{
-    let k = f.kind;
-    let x = f.lanes;
-    let y = t.lanes;
-    let z = c.lanes;
-    values::of_lanes(
-        k,
-        crate::lanes::select_four(values::cut(x), values::cut(y), values::cut(z)),
+    crate::given_one(
+        calls::tests::one_value(w, n, p, set),
+        crate::BOOL,
+        flag_of(each_is(words::types::count_at(p), x, 1)),
     )
 }
 
-// A scalar condition chooses a whole value.
-pub fn select(f: Value, t: Value, c: Value) -> Answer
-    requires { ⌜ Passed3 Taken.Anything Taken.Anything Taken.Booleans Together.Selectable f t c ⌝ }
-    ensures { λ r. ⌜ r ≡ answered (selectOf f t c) ⌝ }
+pub fn any(w: &[u64], n: u64, p: u64, set: u64, x: [u32; 4]) -> Outcome
+    requires { ⌜ First (now w) p ⌝ }
+    ensures { λ r. ⌜ r ≡ outcome Builtin.Any (eqb (judgedIn Shape.OneValue set n (now (w .entry))) 0) 0 p x emptyValue emptyValue ⌝ }
 {
-    let k = c.kind;
-    let l = c.lanes;
-    if values::same_kind(k, Kind::One(Scalar::Boolean)) {
-        crate::answered(either(f, t, l[0]))
-    } else {
-        crate::answered(select_lanes(f, t, c))
-    }
+    crate::given_one(
+        calls::tests::one_value(w, n, p, set),
+        crate::BOOL,
+        flag_of(!each_is(words::types::count_at(p), x, 0)),
+    )
+}
+
+pub fn select(w: &[u64], n: u64, p: u64, set: u64, x: [u32; 4]) -> Outcome
+    requires { ⌜ First (now w) p ⌝ }
+    ensures { λ r. ⌜ r ≡ outcome Builtin.Select (eqb (judgedIn Shape.Selecting set n (now (w .entry))) 0) 0 p x (valueAt (now (w .entry)) 20) (valueAt (now (w .entry)) 37) ⌝ }
+{
+    crate::given(
+        calls::tests::selecting(w, n, p, set),
+        p,
+        crate::lanes::select_four(x, words::cut_at(w, 20), condition(w)),
+    )
 }

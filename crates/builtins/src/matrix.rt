@@ -1,33 +1,63 @@
-// transpose: a matrix as an array of columns, each an array of lanes.
-use crate::Answer;
-use values::Kind;
-use values::Size;
-use values::Value;
-use values::Width;
+// Matrices, whole: only select and transpose take them. A call is judged first; select copies a matrix, transpose turns an array of its columns.
 ghost use mathlib.Core.Path.{_≡_};
-ghost use Prim.Native.Nat.{_*_, _/_, _%_, _<_, _≤_};
-ghost use Rattle.builtins.specs.Columns.{column, columns, at, row, turned, lanesOfColumns};
-ghost use Rattle.builtins.specs.Numeric.{transposed, transposeOf};
-ghost use Rattle.builtins.specs.Fold.{answered};
+ghost use mathlib.Core.Bool.{cond};
+ghost use Prim.Native.Nat.{_+_, _*_, _/_, _%_, _≤_, _<_};
+ghost use lib.Dec.{eqb, ltb};
+ghost use lib.ListN.{length, take, drop, getD};
+ghost use Rattle.values.specs.Value.{place, kindAt};
+ghost use Rattle.buffers.specs.Memory.{put};
+ghost use Rattle.words.specs.Words.{valueAt, wordsOf};
+ghost use Rattle.calls.specs.Refuse.{refusalOf};
+ghost use Rattle.calls.specs.Words.{callOf};
+ghost use Rattle.calls.specs.Program.{First};
+ghost use Rattle.builtins.specs.Numeric.{transposeOf};
+ghost use Rattle.builtins.specs.Fold.{foldOf};
+ghost use Rattle.builtins.specs.Words.{refusalIn, writtenIn};
+ghost use Rattle.builtins.specs.Program.{columnsOf, rowsOf, turnedKind, column, columns, at, row, turned};
 
-// Four lanes from one on.
-fn column(l: [u64; 16], at: usize) -> [u64; 4]
-    requires { ⌜ at ≤ 12 ⌝ }
-    ensures { λ x. ⌜ x ≡ column l at ⌝ }
+// ---- transpose
+
+// How many columns the matrix type at p has, and how many rows.
+fn columns_at(p: u64) -> usize
+    requires { ⌜ (20 < p) × (p < 39) ⌝ }
+    ensures { λ r. ⌜ r ≡ columnsOf (kindAt p) ⌝ }
 {
-    [l[at], l[at + 1], l[at + 2], l[at + 3]]
+    ((p - 21) % 9 / 3 + 2) as usize
 }
 
-// The columns of a matrix of n rows. Of a column only the first n lanes are its own.
-fn columns(l: [u64; 16], n: usize) -> [[u64; 4]; 4]
-    requires { ⌜ n ≤ 4 ⌝ }
-    ensures { λ x. ⌜ x ≡ columns n l ⌝ }
+fn rows_at(p: u64) -> usize
+    requires { ⌜ (20 < p) × (p < 39) ⌝ }
+    ensures { λ r. ⌜ r ≡ rowsOf (kindAt p) ⌝ }
+{
+    ((p - 21) % 3 + 2) as usize
+}
+
+// The place of the type with rows and columns swapped.
+fn turned_at(p: u64) -> u64
+    requires { ⌜ (20 < p) × (p < 39) ⌝ }
+    ensures { λ r. ⌜ r ≡ place (turnedKind (kindAt p)) ⌝ }
+{
+    21 + (p - 21) / 9 * 9 + (p - 21) % 3 * 3 + (p - 21) % 9 / 3
+}
+
+// Four words from one on.
+fn column(w: &[u64], at: usize) -> [u64; 4]
+    requires { ⌜ at + 4 ≤ length (now w) ⌝ }
+    ensures { λ x. ⌜ x ≡ column (now (w .entry)) at ⌝ }
+{
+    [w[at], w[at + 1], w[at + 2], w[at + 3]]
+}
+
+// The columns of a matrix of n rows whose lanes stand from the fourth word on. Of a column only the first n lanes are its own.
+fn columns(w: &[u64], n: usize) -> [[u64; 4]; 4]
+    requires { ⌜ (n ≤ 4) × (20 ≤ length (now w)) ⌝ }
+    ensures { λ x. ⌜ x ≡ columns n (now (w .entry)) ⌝ }
 {
     [
-        column(l, 0),
-        column(l, n),
-        column(l, 2 * n),
-        column(l, 3 * n),
+        column(w, 4),
+        column(w, 4 + n),
+        column(w, 4 + 2 * n),
+        column(w, 4 + 3 * n),
     ]
 }
 
@@ -44,53 +74,83 @@ fn turned(m: [[u64; 4]; 4]) -> [[u64; 4]; 4]
     [row(m, 0), row(m, 1), row(m, 2), row(m, 3)]
 }
 
-// Lane i of columns of n rows.
-fn lane_at(m: [[u64; 4]; 4], n: usize, i: usize) -> u64
-    requires { ⌜ (1 ≤ n) × ((n ≤ 4) × (i < 4 * n)) ⌝ }
-    ensures { λ r. ⌜ r ≡ at m (i / n) (i % n) ⌝ }
+// Lane j of columns of n rows: 0 past the first k.
+fn lane_at(m: [[u64; 4]; 4], n: usize, k: usize, j: usize) -> u64
+    requires { ⌜ (1 ≤ n) × (n ≤ 4) × (k ≤ 4 * n) ⌝ }
+    ensures { λ r. ⌜ r ≡ cond (ltb j k) (at m (j / n) (j % n)) 0 ⌝ }
 {
-    m[i / n][i % n]
+    if j < k { m[j / n][j % n] } else { 0 }
 }
 
-// The first lanes of columns of n rows.
-fn lanes_of(m: [[u64; 4]; 4], n: usize, count: usize) -> [u64; 16]
-    requires { ⌜ (1 ≤ n) × ((n ≤ 4) × (count ≤ 4 * n)) ⌝ }
-    ensures { λ r. ⌜ r ≡ lanesOfColumns m n count ⌝ }
+fn put_transposed(w: &[u64], p: u64, out: &mut [u64])
+    requires { ⌜ First (now w) p × (20 < p) × (17 ≤ length (now out)) ⌝ }
+    ensures { λ _. ⌜ now (out .exit) ≡ put (now (out .entry)) 0 (wordsOf (transposeOf (valueAt (now (w .entry)) 3))) ⌝ }
 {
-    let mut lanes = [0; 16];
+    let n = columns_at(p);
+    let m = turned(columns(w, rows_at(p)));
+    let count = words::types::count_at(p);
+    out[0] = turned_at(p);
+    let mut j = 0;
+    while j < 16 {
+        out[1 + j] = lane_at(m, n, count, j);
+        j += 1;
+    }
+}
+
+// ---- select
+
+fn put_copy(s: &[u64], out: &mut [u64])
+    requires { ⌜ length (now s) ≤ length (now out) ⌝ }
+    ensures { λ _. ⌜ now (out .exit) ≡ put (now (out .entry)) 0 (now (s .entry)) ⌝ }
+{
     let mut i = 0;
-    while i < count {
-        lanes[i] = lane_at(m, n, i);
+    while i < s.len() {
+        out[i] = s[i];
         i += 1;
     }
-    lanes
 }
 
-fn transposed(v: Value, c: Size, r: Size, w: Width) -> Value
-    ensures { λ x. ⌜ x ≡ transposed (Kind.Mat c r w) v ⌝ }
+// One of the two values, whole: a matrix goes with a scalar condition alone.
+fn put_selected(w: &[u64], out: &mut [u64])
+    requires { ⌜ (54 ≤ length (now w)) × (17 ≤ length (now out)) ⌝ }
+    ensures { λ _. ⌜ now (out .exit) ≡ put (now (out .entry)) 0 (cond (eqb (getD (now (w .entry)) 38 0) 0) (take 17 (drop 3 (now (w .entry)))) (take 17 (drop 20 (now (w .entry))))) ⌝ }
 {
-    let l = v.lanes;
-    let count = values::lane_count(Kind::Mat(c, r, w));
-    let lanes = lanes_of(
-        turned(columns(l, values::size_of(r))),
-        values::size_of(c),
-        count,
-    );
-    Value {
-        kind: Kind::Mat(r, c, w),
-        lanes: lanes,
+    if w[38] == 0 {
+        put_copy(&w[3..20], out);
+    } else {
+        put_copy(&w[20..37], out);
     }
 }
 
-// What is no matrix is handed back; its row refuses it.
-pub fn transpose(v: Value) -> Answer
-    ensures { λ r. ⌜ r ≡ answered (transposeOf v) ⌝ }
+// ---- calls
+
+const SELECT: u64 = 3;
+
+// The first value of the answer, which is all of it.
+fn put_first(w: &[u64], p: u64, out: &mut [u64])
+    requires { ⌜ First (now w) p × (20 < p) × (17 ≤ length (now out)) × (refusalOf (callOf (now w)) ≡ 0) ⌝ }
+    ensures { λ _. ⌜ now (out .exit) ≡ put (now (out .entry)) 0 (wordsOf (foldOf (callOf (now (w .entry))) .first)) ⌝ }
 {
-    let k = v.kind;
-    match k {
-        Kind::Empty => crate::answered(v),
-        Kind::One(_) => crate::answered(v),
-        Kind::Vec(_, _) => crate::answered(v),
-        Kind::Mat(c, r, w) => crate::answered(transposed(v, c, r, w)),
+    if w[0] == SELECT {
+        put_selected(w, out);
+    } else {
+        put_transposed(w, p, out);
     }
+}
+
+pub fn fold(w: &[u64], p: u64, out: &mut [u64]) -> u8
+    requires { ⌜ First (now w) p × (20 < p) ⌝ }
+    ensures { λ r. ⌜ (r ≡ refusalIn (length (now (out .entry))) (now (w .entry)))
+        × (now (out .exit) ≡ put (now (out .entry)) 0 (writtenIn (length (now (out .entry))) (now (w .entry)))) ⌝ }
+{
+    let n = calls::refusal_of(w);
+    if n != 0 {
+        return n;
+    }
+    if out.len() < 34 {
+        return 8;
+    }
+    put_first(w, p, out);
+    words::put_lanes(out, 17, 0, [0; 4]);
+    0
 }

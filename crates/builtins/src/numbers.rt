@@ -1,64 +1,65 @@
-// abs, sign and the counts of a value: the lanes are the crate numeric's.
-use crate::Answer;
-use calls::Taken;
-use values::Value;
+// abs, sign and the counts: the lanes are the crate numeric's. An arm is handed the call's words, its count of arguments n, the place p of the first value's type, the types
+// of its row and the first value's lanes.
+use crate::Outcome;
+use calls::Builtin;
+use calls::table::Shape;
 ghost use mathlib.Core.Path.{_≡_};
-ghost use Rattle.values.specs.Value.{scalarOf, lanewise};
-ghost use Rattle.numeric.specs.Numeric.{absLane, signLane, leadingLane, onesLane, trailingLane};
-ghost use Rattle.calls.specs.Passed.{Passed};
-ghost use Rattle.builtins.specs.Fold.{answered};
+ghost use lib.Dec.{eqb};
+ghost use Rattle.values.specs.Value.{emptyValue};
+ghost use Rattle.calls.specs.Program.{judgedIn, First};
+ghost use Rattle.builtins.specs.Program.{outcome};
 
-pub fn abs(v: Value) -> Answer
-    requires { ⌜ Passed Taken.Numbers v ⌝ }
-    ensures { λ r. ⌜ r ≡ answered (lanewise (absLane (scalarOf (v .kind))) v) ⌝ }
+pub fn abs(w: &[u64], n: u64, p: u64, set: u64, x: [u32; 4]) -> Outcome
+    requires { ⌜ First (now w) p ⌝ }
+    ensures { λ r. ⌜ r ≡ outcome Builtin.Abs (eqb (judgedIn Shape.OneValue set n (now (w .entry))) 0) 0 p x emptyValue emptyValue ⌝ }
 {
-    let k = v.kind;
-    let l = v.lanes;
-    let lanes = values::cut(l);
-    let magnitudes = numeric::abs(values::scalar_of(k), lanes);
-    crate::answered_lanes(k, magnitudes)
+    crate::given(
+        calls::tests::one_value(w, n, p, set),
+        p,
+        numeric::abs(words::types::scalar_at(p), x),
+    )
 }
 
-pub fn sign(v: Value) -> Answer
-    requires { ⌜ Passed Taken.Numbers v ⌝ }
-    ensures { λ r. ⌜ r ≡ answered (lanewise (signLane (scalarOf (v .kind))) v) ⌝ }
+pub fn sign(w: &[u64], n: u64, p: u64, set: u64, x: [u32; 4]) -> Outcome
+    requires { ⌜ First (now w) p ⌝ }
+    ensures { λ r. ⌜ r ≡ outcome Builtin.Sign (eqb (judgedIn Shape.OneValue set n (now (w .entry))) 0) 0 p x emptyValue emptyValue ⌝ }
 {
-    let k = v.kind;
-    let l = v.lanes;
-    let lanes = values::cut(l);
-    let signs = numeric::sign(values::scalar_of(k), lanes);
-    crate::answered_lanes(k, signs)
+    crate::given(
+        calls::tests::one_value(w, n, p, set),
+        p,
+        numeric::sign(words::types::scalar_at(p), x),
+    )
 }
 
-pub fn count_leading_zeros(v: Value) -> Answer
-    requires { ⌜ Passed Taken.Integers v ⌝ }
-    ensures { λ r. ⌜ r ≡ answered (lanewise leadingLane v) ⌝ }
+pub fn count_leading_zeros(w: &[u64], n: u64, p: u64, set: u64, x: [u32; 4]) -> Outcome
+    requires { ⌜ First (now w) p ⌝ }
+    ensures { λ r. ⌜ r ≡ outcome Builtin.CountLeadingZeros (eqb (judgedIn Shape.OneValue set n (now (w .entry))) 0) 0 p x emptyValue emptyValue ⌝ }
 {
-    let k = v.kind;
-    let l = v.lanes;
-    let lanes = values::cut(l);
-    let leading = numeric::count_leading_zeros(lanes);
-    crate::answered_lanes(k, leading)
+    crate::given(
+        calls::tests::one_value(w, n, p, set),
+        p,
+        numeric::count_leading_zeros(x),
+    )
 }
 
-pub fn count_one_bits(v: Value) -> Answer
-    requires { ⌜ Passed Taken.Integers v ⌝ }
-    ensures { λ r. ⌜ r ≡ answered (lanewise onesLane v) ⌝ }
+pub fn count_one_bits(w: &[u64], n: u64, p: u64, set: u64, x: [u32; 4]) -> Outcome
+    requires { ⌜ First (now w) p ⌝ }
+    ensures { λ r. ⌜ r ≡ outcome Builtin.CountOneBits (eqb (judgedIn Shape.OneValue set n (now (w .entry))) 0) 0 p x emptyValue emptyValue ⌝ }
 {
-    let k = v.kind;
-    let l = v.lanes;
-    let lanes = values::cut(l);
-    let ones = numeric::count_one_bits(lanes);
-    crate::answered_lanes(k, ones)
+    crate::given(
+        calls::tests::one_value(w, n, p, set),
+        p,
+        numeric::count_one_bits(x),
+    )
 }
 
-pub fn count_trailing_zeros(v: Value) -> Answer
-    requires { ⌜ Passed Taken.Integers v ⌝ }
-    ensures { λ r. ⌜ r ≡ answered (lanewise trailingLane v) ⌝ }
+pub fn count_trailing_zeros(w: &[u64], n: u64, p: u64, set: u64, x: [u32; 4]) -> Outcome
+    requires { ⌜ First (now w) p ⌝ }
+    ensures { λ r. ⌜ r ≡ outcome Builtin.CountTrailingZeros (eqb (judgedIn Shape.OneValue set n (now (w .entry))) 0) 0 p x emptyValue emptyValue ⌝ }
 {
-    let k = v.kind;
-    let l = v.lanes;
-    let lanes = values::cut(l);
-    let trailing = numeric::count_trailing_zeros(lanes);
-    crate::answered_lanes(k, trailing)
+    crate::given(
+        calls::tests::one_value(w, n, p, set),
+        p,
+        numeric::count_trailing_zeros(x),
+    )
 }

@@ -1,77 +1,70 @@
-// min, max, clamp, saturate and step of values: the lanes are the crate numeric's.
-use crate::Answer;
-use calls::Taken;
-use calls::Together;
-use values::Value;
+// min, max, clamp, saturate and step: the lanes are the crate numeric's.
+use crate::Outcome;
+use calls::Builtin;
+use calls::table::Shape;
 ghost use mathlib.Core.Path.{_≡_};
-ghost use Rattle.values.specs.Value.{scalarOf, lanewise, lanewise2, lanewise3};
-ghost use Rattle.numeric.specs.Numeric.{minLane, maxLane, clampLane, saturateLane, stepLane};
-ghost use Rattle.calls.specs.Passed.{Passed, Passed2, Passed3};
-ghost use Rattle.builtins.specs.Fold.{answered};
+ghost use lib.Dec.{eqb};
+ghost use Rattle.values.specs.Value.{emptyValue};
+ghost use Rattle.words.specs.Words.{valueAt};
+ghost use Rattle.calls.specs.Program.{judgedIn, First};
+ghost use Rattle.builtins.specs.Program.{outcome};
 
-pub fn min(a: Value, b: Value) -> Answer
-    requires { ⌜ Passed2 Taken.Ordered Taken.Ordered Together.OneType a b ⌝ }
-    ensures { λ r. ⌜ r ≡ answered (lanewise2 (minLane (scalarOf (a .kind))) a b) ⌝ }
+pub fn min(w: &[u64], n: u64, p: u64, set: u64, x: [u32; 4]) -> Outcome
+    requires { ⌜ First (now w) p ⌝ }
+    ensures { λ r. ⌜ r ≡ outcome Builtin.Min (eqb (judgedIn Shape.TwoAlike set n (now (w .entry))) 0) 0 p x (valueAt (now (w .entry)) 20) (valueAt (now (w .entry)) 37) ⌝ }
 {
-    let k = a.kind;
-    let x = a.lanes;
-    let y = b.lanes;
-    crate::answered_lanes(
-        k,
-        numeric::order::min(values::scalar_of(k), values::cut(x), values::cut(y)),
+    crate::given(
+        calls::tests::two_alike(w, n, p, set),
+        p,
+        limits::min(words::types::scalar_at(p), x, words::cut_at(w, 20)),
     )
 }
 
-pub fn max(a: Value, b: Value) -> Answer
-    requires { ⌜ Passed2 Taken.Ordered Taken.Ordered Together.OneType a b ⌝ }
-    ensures { λ r. ⌜ r ≡ answered (lanewise2 (maxLane (scalarOf (a .kind))) a b) ⌝ }
+pub fn max(w: &[u64], n: u64, p: u64, set: u64, x: [u32; 4]) -> Outcome
+    requires { ⌜ First (now w) p ⌝ }
+    ensures { λ r. ⌜ r ≡ outcome Builtin.Max (eqb (judgedIn Shape.TwoAlike set n (now (w .entry))) 0) 0 p x (valueAt (now (w .entry)) 20) (valueAt (now (w .entry)) 37) ⌝ }
 {
-    let k = a.kind;
-    let x = a.lanes;
-    let y = b.lanes;
-    crate::answered_lanes(
-        k,
-        numeric::order::max(values::scalar_of(k), values::cut(x), values::cut(y)),
+    crate::given(
+        calls::tests::two_alike(w, n, p, set),
+        p,
+        limits::max(words::types::scalar_at(p), x, words::cut_at(w, 20)),
     )
 }
 
-pub fn clamp(e: Value, low: Value, high: Value) -> Answer
-    requires { ⌜ Passed3 Taken.Ordered Taken.Ordered Taken.Ordered Together.OneType e low high ⌝ }
-    ensures { λ r. ⌜ r ≡ answered (lanewise3 (clampLane (scalarOf (e .kind))) e low high) ⌝ }
+pub fn clamp(w: &[u64], n: u64, p: u64, set: u64, x: [u32; 4]) -> Outcome
+    requires { ⌜ First (now w) p ⌝ }
+    ensures { λ r. ⌜ r ≡ outcome Builtin.Clamp (eqb (judgedIn Shape.ThreeAlike set n (now (w .entry))) 0) 0 p x (valueAt (now (w .entry)) 20) (valueAt (now (w .entry)) 37) ⌝ }
 {
-    let k = e.kind;
-    let x = e.lanes;
-    let y = low.lanes;
-    let z = high.lanes;
-    crate::answered_lanes(
-        k,
-        numeric::order::clamp(
-            values::scalar_of(k),
-            values::cut(x),
-            values::cut(y),
-            values::cut(z),
+    crate::given(
+        calls::tests::three_alike(w, n, p, set),
+        p,
+        limits::clamp(
+            words::types::scalar_at(p),
+            x,
+            words::cut_at(w, 20),
+            words::cut_at(w, 37),
         ),
     )
 }
 
-pub fn saturate(v: Value) -> Answer
-    requires { ⌜ Passed Taken.Singles v ⌝ }
-    ensures { λ r. ⌜ r ≡ answered (lanewise saturateLane v) ⌝ }
+pub fn saturate(w: &[u64], n: u64, p: u64, set: u64, x: [u32; 4]) -> Outcome
+    requires { ⌜ First (now w) p ⌝ }
+    ensures { λ r. ⌜ r ≡ outcome Builtin.Saturate (eqb (judgedIn Shape.OneValue set n (now (w .entry))) 0) 0 p x emptyValue emptyValue ⌝ }
 {
-    let k = v.kind;
-    let l = v.lanes;
-    crate::answered_lanes(k, numeric::order::saturate(values::cut(l)))
+    crate::given(
+        calls::tests::one_value(w, n, p, set),
+        p,
+        limits::saturate(x),
+    )
 }
 
-pub fn step(edge: Value, v: Value) -> Answer
-    requires { ⌜ Passed2 Taken.Floats Taken.Floats Together.OneType edge v ⌝ }
-    ensures { λ r. ⌜ r ≡ answered (lanewise2 (stepLane (scalarOf (edge .kind))) edge v) ⌝ }
+pub fn step(w: &[u64], n: u64, p: u64, set: u64, x: [u32; 4]) -> Outcome
+    requires { ⌜ First (now w) p ⌝ }
+    ensures { λ r. ⌜ r ≡ outcome Builtin.Step (eqb (judgedIn Shape.TwoAlike set n (now (w .entry))) 0) 0 p x (valueAt (now (w .entry)) 20) (valueAt (now (w .entry)) 37) ⌝ }
 {
-    let k = edge.kind;
-    let x = edge.lanes;
-    let y = v.lanes;
-    crate::answered_lanes(
-        k,
-        numeric::order::step(values::scalar_of(k), values::cut(x), values::cut(y)),
+    crate::given(
+        calls::tests::two_alike(w, n, p, set),
+        p,
+        limits::step(words::types::scalar_at(p), x, words::cut_at(w, 20)),
     )
 }

@@ -1,65 +1,71 @@
 // Packing and unpacking words: the words and the lanes are packing's, by the codings of their formats.
-use crate::Answer;
-use calls::Taken;
+use crate::Outcome;
+use calls::table::Shape;
 use packing::Coding8;
 use packing::Coding16;
-use values::Kind;
-use values::Scalar;
-use values::Size;
-use values::Value;
 ghost use mathlib.Core.Path.{_≡_};
-ghost use Rattle.packing.specs.Codings.{scalar8Of, code8Of, lane8Of, code16Of, lane16Of};
-ghost use Rattle.calls.specs.Passed.{Passed};
-ghost use Rattle.builtins.specs.Pack.{filled, word, packed, unpacked};
-ghost use Rattle.builtins.specs.Fold.{answered};
+ghost use mathlib.Core.List.{[], _∷_, _++_, map};
+ghost use lib.Dec.{eqb};
+ghost use lib.ListN.{take, getD};
+ghost use Rattle.values.specs.Program.{four};
+ghost use Rattle.numeric.specs.Parts.{parts, joined};
+ghost use Rattle.packing.specs.Program.{code8Of, lane8Of, code16Of, lane16Of};
+ghost use Rattle.calls.specs.Program.{judgedIn, First};
+ghost use Rattle.builtins.specs.Program.{given, givenOne, fillFour};
 
-fn answered_word(x: u32) -> Answer
-    ensures { λ r. ⌜ r ≡ answered (word x) ⌝ }
+pub fn pack8(w: &[u64], n: u64, p: u64, set: u64, t: Coding8, x: [u32; 4]) -> Outcome
+    requires { ⌜ First (now w) p ⌝ }
+    ensures { λ r. ⌜ r ≡ givenOne (eqb (judgedIn Shape.OneValue set n (now (w .entry))) 0) 3 (joined 8 (four (code8Of t) x)) ⌝ }
 {
-    crate::answered_lanes(Kind::One(Scalar::U32), [x, 0, 0, 0])
+    crate::given_one(
+        calls::tests::one_value(w, n, p, set),
+        crate::U32,
+        packing::word8(t, x),
+    )
 }
 
-pub fn pack8(t: Coding8, v: Value) -> Answer
-    requires { ⌜ Passed (Taken.Only (Kind.Vec Size.Four (scalar8Of t))) v ⌝ }
-    ensures { λ r. ⌜ r ≡ answered (packed 8 (code8Of t) v) ⌝ }
+pub fn pack16(w: &[u64], n: u64, p: u64, set: u64, t: Coding16, x: [u32; 4]) -> Outcome
+    requires { ⌜ First (now w) p ⌝ }
+    ensures { λ r. ⌜ r ≡ givenOne (eqb (judgedIn Shape.OneValue set n (now (w .entry))) 0) 3 (joined 16 (take 2 (four (code16Of t) x))) ⌝ }
 {
-    let l = v.lanes;
-    answered_word(packing::word8(t, values::cut(l)))
+    crate::given_one(
+        calls::tests::one_value(w, n, p, set),
+        crate::U32,
+        packing::word16(t, x),
+    )
 }
 
-pub fn pack16(t: Coding16, v: Value) -> Answer
-    requires { ⌜ Passed (Taken.Only (Kind.Vec Size.Two Scalar.F32)) v ⌝ }
-    ensures { λ r. ⌜ r ≡ answered (packed 16 (code16Of t) v) ⌝ }
+// pack4xI8Clamp: a negative lane fills every lane above it.
+pub fn pack_filling(w: &[u64], n: u64, p: u64, set: u64, x: [u32; 4]) -> Outcome
+    requires { ⌜ First (now w) p ⌝ }
+    ensures { λ r. ⌜ r ≡ givenOne (eqb (judgedIn Shape.OneValue set n (now (w .entry))) 0) 3 (fillFour x) ⌝ }
 {
-    let l = v.lanes;
-    answered_word(packing::word16(t, values::cut(l)))
+    crate::given_one(
+        calls::tests::one_value(w, n, p, set),
+        crate::U32,
+        packing::fill_word(x),
+    )
 }
 
-pub fn unpack8(t: Coding8, v: Value) -> Answer
-    requires { ⌜ Passed (Taken.Only (Kind.One Scalar.U32)) v ⌝ }
-    ensures { λ r. ⌜ r ≡ answered (unpacked 8 4 (lane8Of t) (Kind.Vec Size.Four (scalar8Of t)) v) ⌝ }
+// To the vector type at k.
+pub fn unpack8(w: &[u64], n: u64, p: u64, set: u64, t: Coding8, k: u64, x: [u32; 4]) -> Outcome
+    requires { ⌜ First (now w) p ⌝ }
+    ensures { λ r. ⌜ r ≡ given (eqb (judgedIn Shape.OneValue set n (now (w .entry))) 0) k (map (lane8Of t) (parts 8 4 (getD x 0 0))) ⌝ }
 {
-    let l = v.lanes;
-    let x = values::cut(l);
-    crate::answered_lanes(
-        Kind::Vec(Size::Four, packing::scalar8(t)),
+    crate::given(
+        calls::tests::one_value(w, n, p, set),
+        k,
         packing::lanes8(t, x[0]),
     )
 }
 
-pub fn unpack16(t: Coding16, v: Value) -> Answer
-    requires { ⌜ Passed (Taken.Only (Kind.One Scalar.U32)) v ⌝ }
-    ensures { λ r. ⌜ r ≡ answered (unpacked 16 2 (lane16Of t) (Kind.Vec Size.Two Scalar.F32) v) ⌝ }
+pub fn unpack16(w: &[u64], n: u64, p: u64, set: u64, t: Coding16, x: [u32; 4]) -> Outcome
+    requires { ⌜ First (now w) p ⌝ }
+    ensures { λ r. ⌜ r ≡ given (eqb (judgedIn Shape.OneValue set n (now (w .entry))) 0) 9 (map (lane16Of t) (parts 16 2 (getD x 0 0)) ++ 0 ∷ 0 ∷ []) ⌝ }
 {
-    let l = v.lanes;
-    let x = values::cut(l);
-    crate::answered_lanes(Kind::Vec(Size::Two, Scalar::F32), packing::lanes16(t, x[0]))
-}
-
-// pack4xI8Clamp.
-pub fn fill(v: Value) -> Answer
-    ensures { λ r. ⌜ r ≡ answered (word (filled v)) ⌝ }
-{
-    let l = v.lanes;
-    answered_word(packing::fill_word(values::cut(l)))
+    crate::given(
+        calls::tests::one_value(w, n, p, set),
+        crate::VEC2_F32,
+        packing::lanes16(t, x[0]),
+    )
 }

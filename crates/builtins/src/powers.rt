@@ -1,39 +1,36 @@
-// frexp and ldexp of a value: the lanes are the crate exponent's.
-use crate::Answer;
-use calls::Taken;
-use calls::Together;
-use values::Scalar;
-use values::Value;
+// frexp and ldexp: the lanes are the crate exponent's.
+use crate::Outcome;
+use calls::Builtin;
+use calls::table::Shape;
 ghost use mathlib.Core.Path.{_≡_};
-ghost use Rattle.values.specs.Value.{lanewise2};
-ghost use Rattle.exponent.specs.Exponent.{ldexpLane};
-ghost use Rattle.calls.specs.Passed.{Passed, Passed2};
-ghost use Rattle.builtins.specs.Exponent.{fractionOf, exponentOf};
-ghost use Rattle.builtins.specs.Fold.{answered, answeredTwice};
+ghost use lib.Dec.{eqb};
+ghost use Rattle.values.specs.Value.{emptyValue};
+ghost use Rattle.words.specs.Words.{valueAt};
+ghost use Rattle.calls.specs.Table.{takes};
+ghost use Rattle.calls.specs.Program.{typesOf, judgedIn, First};
+ghost use Rattle.builtins.specs.Program.{outcome};
 
-pub fn frexp(v: Value) -> Answer
-    requires { ⌜ Passed Taken.Floats v ⌝ }
-    ensures { λ r. ⌜ r ≡ answeredTwice (fractionOf v) (exponentOf v) ⌝ }
+pub fn frexp(w: &[u64], n: u64, p: u64, set: u64, x: [u32; 4]) -> Outcome
+    requires { ⌜ First (now w) p ⌝ }
+    ensures { λ r. ⌜ r ≡ outcome Builtin.Frexp (eqb (judgedIn Shape.OneValue set n (now (w .entry))) 0) 0 p x emptyValue emptyValue ⌝ }
 {
-    let k = v.kind;
-    let l = v.lanes;
-    let lanes = values::cut(l);
-    let s = values::scalar_of(k);
-    let fractions = values::of_lanes(k, exponent::fraction(s, lanes));
-    let exponents = values::of_lanes(
-        values::shaped_as(Scalar::I32, k),
-        exponent::exponent(s, lanes),
-    );
-    crate::answered_twice(fractions, exponents)
+    let s = words::types::scalar_at(p);
+    crate::given_two(
+        calls::tests::one_value(w, n, p, set),
+        p,
+        exponent::fraction(s, x),
+        words::types::integers_at(p),
+        exponent::exponent(s, x),
+    )
 }
 
-pub fn ldexp(x: Value, n: Value) -> Answer
-    requires { ⌜ Passed2 Taken.Singles Taken.I32s Together.SameShape x n ⌝ }
-    ensures { λ r. ⌜ r ≡ answered (lanewise2 ldexpLane x n) ⌝ }
+pub fn ldexp(w: &[u64], n: u64, p: u64, set: u64, x: [u32; 4]) -> Outcome
+    requires { ⌜ First (now w) p × (set ≡ typesOf (takes Builtin.Ldexp)) ⌝ }
+    ensures { λ r. ⌜ r ≡ outcome Builtin.Ldexp (eqb (judgedIn Shape.Scaling set n (now (w .entry))) 0) 0 p x (valueAt (now (w .entry)) 20) (valueAt (now (w .entry)) 37) ⌝ }
 {
-    let k = x.kind;
-    let l = x.lanes;
-    let m = n.lanes;
-    let lanes = exponent::ldexp(values::cut(l), values::cut(m));
-    crate::answered_lanes(k, lanes)
+    crate::given(
+        calls::tests::scaling(w, n, p, set),
+        p,
+        exponent::ldexp(x, words::cut_at(w, 20)),
+    )
 }

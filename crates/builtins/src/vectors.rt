@@ -1,34 +1,33 @@
-// cross and dot of values: the lanes are the crate numeric's.
-use crate::Answer;
-use calls::Taken;
-use calls::Together;
+// cross and dot: the lanes are the crate numeric's.
+use crate::Outcome;
+use calls::Builtin;
+use calls::table::Shape;
 use values::Kind;
-use values::Scalar;
-use values::Size;
-use values::Value;
 ghost use mathlib.Core.Path.{_≡_};
-ghost use Rattle.calls.specs.Passed.{Passed2};
-ghost use Rattle.builtins.specs.Numeric.{crossOf, dotOf};
-ghost use Rattle.builtins.specs.Fold.{answered};
+ghost use lib.Dec.{eqb};
+ghost use Rattle.words.specs.Words.{valueAt};
+ghost use Rattle.calls.specs.Program.{judgedIn, First};
+ghost use Rattle.builtins.specs.Program.{outcome};
 
-pub fn cross(a: Value, b: Value) -> Answer
-    requires { ⌜ Passed2 (Taken.Only (Kind.Vec Size.Three Scalar.F32)) (Taken.Only (Kind.Vec Size.Three Scalar.F32)) Together.OneType a b ⌝ }
-    ensures { λ r. ⌜ r ≡ answered (crossOf a b) ⌝ }
+pub fn cross(w: &[u64], n: u64, p: u64, set: u64, x: [u32; 4]) -> Outcome
+    requires { ⌜ First (now w) p ⌝ }
+    ensures { λ r. ⌜ r ≡ outcome Builtin.Cross (eqb (judgedIn Shape.TwoAlike set n (now (w .entry))) 0) 0 p x (valueAt (now (w .entry)) 20) (valueAt (now (w .entry)) 37) ⌝ }
 {
-    let k = a.kind;
-    let x = a.lanes;
-    let y = b.lanes;
-    crate::answered_lanes(k, numeric::vectors::cross(values::cut(x), values::cut(y)))
+    crate::given(
+        calls::tests::two_alike(w, n, p, set),
+        p,
+        products::cross(x, words::cut_at(w, 20)),
+    )
 }
 
-pub fn dot(a: Value, b: Value) -> Answer
-    requires { ⌜ Passed2 Taken.Vectors Taken.Vectors Together.OneType a b ⌝ }
-    ensures { λ r. ⌜ r ≡ answered (dotOf a b) ⌝ }
+pub fn dot(w: &[u64], n: u64, p: u64, set: u64, x: [u32; 4]) -> Outcome
+    requires { ⌜ First (now w) p ⌝ }
+    ensures { λ r. ⌜ r ≡ outcome Builtin.Dot (eqb (judgedIn Shape.TwoAlike set n (now (w .entry))) 0) 0 p x (valueAt (now (w .entry)) 20) (valueAt (now (w .entry)) 37) ⌝ }
 {
-    let k = a.kind;
-    let x = a.lanes;
-    let y = b.lanes;
-    let s = values::scalar_of(k);
-    let sum = numeric::vectors::dot(s, values::lane_count(k), values::cut(x), values::cut(y));
-    crate::answered_lanes(Kind::One(s), [sum, 0, 0, 0])
+    let s = words::types::scalar_at(p);
+    crate::given_one(
+        calls::tests::two_alike(w, n, p, set),
+        values::place_of(Kind::One(s)),
+        products::dot(s, words::types::count_at(p), x, words::cut_at(w, 20)),
+    )
 }

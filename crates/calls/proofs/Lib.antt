@@ -1,2 +1,5 @@
-pub mod Sets
+pub mod Shaped
+pub mod Converse
 pub mod Passed
+pub mod Matrices
+pub mod CallWords

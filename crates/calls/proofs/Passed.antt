@@ -8,24 +8,19 @@ use Rattle.values.specs.declared.Kind.{Kind}
 use Rattle.values.specs.declared.Value.{Value}
 use Rattle.values.specs.Value.{isType, wellFormed}
 use Rattle.values.proofs.Bools.{both}
-use Rattle.calls.specs.declared.Taken.{Taken}
-use Rattle.calls.specs.declared.Together.{Together}
-use Rattle.calls.specs.declared.Row.{Row}
-use Rattle.calls.specs.declared.Row.the-variants.{Unary, Binary, Ternary, Cast}
-use Rattle.calls.specs.Table.{taken}
+use Rattle.calls.specs.Table.{Taken, Together, Row, Unary, Binary, Ternary, Cast, taken}
 use Rattle.calls.specs.Refuse.{inTable, arity, formed, takenAlone, takenTogether, sized, byteSize, firstOf, judged}
-use Rattle.calls.specs.Passed.{Passed, Passed2, Passed3, PassedCast}
+use Rattle.calls.specs.Program.{Passed, Passed2, Passed3, PassedCast}
 use lib.Dec.{eqb}
 
-record Tests (counted formed alone together sized : Bool) : Type 0 where
-  isCounted : counted ≡ true
+record Tests (formed alone together sized : Bool) : Type 0 where
   isFormed : formed ≡ true
   isAlone : alone ≡ true
   isTogether : together ≡ true
   isSized : sized ≡ true
 
-none : (k n f a t s : Bool) → firstOf k n f a t s ≡ 0 → Tests n f a t s
-none true true true true true true e = record { isCounted = refl; isFormed = refl; isAlone = refl; isTogether = refl; isSized = refl }
+none : (k n f a t s : Bool) → firstOf k n f a t s ≡ 0 → Tests f a t s
+none true true true true true true e = record { isFormed = refl; isAlone = refl; isTogether = refl; isSized = refl }
 none false n f a t s e = absurd (omega arith)
 none true false f a t s e = absurd (omega arith)
 none true true false a t s e = absurd (omega arith)
@@ -34,14 +29,10 @@ none true true true true false s e = absurd (omega arith)
 none true true true true true false e = absurd (omega arith)
 
 tests : (row : Row) (n : ℕ) (t : Kind) (a b c : Value) → judged row n t a b c ≡ 0
-    → Tests (eqb n (arity row)) (formed row t a b c) (takenAlone row t (a .kind) (b .kind) (c .kind)) (takenTogether row (a .kind) (b .kind) (c .kind)) (sized row t (a .kind))
+    → Tests (formed row t a b c) (takenAlone row t (a .kind) (b .kind) (c .kind)) (takenTogether row (a .kind) (b .kind) (c .kind)) (sized row t (a .kind))
 unfolding judged
 tests row n t a b c e =
     none (inTable row) (eqb n (arity row)) (formed row t a b c) (takenAlone row t (a .kind) (b .kind) (c .kind)) (takenTogether row (a .kind) (b .kind) (c .kind)) (sized row t (a .kind)) e
-
--- as many arguments are given as the row has
-pub at-arity : (row : Row) (n : ℕ) (t : Kind) (a b c : Value) → judged row n t a b c ≡ 0 → judged row (arity row) t a b c ≡ 0
-at-arity row n t a b c e = rw (← eqb-true n (arity row) (tests row n t a b c e .isCounted)) e
 
 passed : (p : Taken) (a : Value) → wellFormed a ≡ true → taken p (a .kind) ≡ true → Passed p a
 passed p a f t = record { formed = f; alone = t }

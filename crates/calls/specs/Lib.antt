@@ -1,3 +1,4 @@
 pub mod Table
 pub mod Refuse
-pub mod Passed
+pub mod Words
+pub mod Program

@@ -5,10 +5,8 @@ use lib.Dec.{eqb}
 use Rattle.values.specs.declared.Kind.{Kind}
 use Rattle.values.specs.declared.Value.{Value}
 use Rattle.values.specs.Value.{laneBits, scalarOf, laneCount, isType, wellFormed}
-use Rattle.calls.specs.declared.Row.{Row}
-use Rattle.calls.specs.declared.Row.the-variants.{Absent, Unary, Binary, Ternary, Cast}
 use Rattle.calls.specs.declared.Call.{Call}
-use Rattle.calls.specs.Table.{taken, together, takes}
+use Rattle.calls.specs.Table.{Row, Absent, Unary, Binary, Ternary, Cast, taken, together, takes}
 
 -- 1 "the builtin is not in the table"
 abbrev pub inTable : Row → Bool

@@ -12,12 +12,36 @@ use Rattle.values.specs.declared.Kind.the-variants.{Empty, One, Vec, Mat}
 use Rattle.values.specs.Value.{shaped, scalarPlace, sameKind}
 use Rattle.calls.specs.declared.Builtin.{Builtin}
 use Rattle.calls.specs.declared.Builtin.the-variants.{All, Any, Select, Abs, Sign, CountLeadingZeros, CountOneBits, CountTrailingZeros, Min, Max, Clamp, Saturate, Step, Cross, Dot, Transpose, Frexp, Ldexp, Bitcast, Pack4x8snorm, Pack4x8unorm, Pack4xI8, Pack4xI8Clamp, Pack4xU8, Pack4xU8Clamp, Pack2x16snorm, Pack2x16unorm, Pack2x16float, Unpack4x8snorm, Unpack4x8unorm, Unpack4xI8, Unpack4xU8, Unpack2x16snorm, Unpack2x16unorm, Unpack2x16float, Unknown}
-use Rattle.calls.specs.declared.Taken.{Taken}
-use Rattle.calls.specs.declared.Taken.the-variants.{Anything, Booleans, Numbers, Integers, Ordered, Floats, Singles, I32s, Vectors, Matrices, Only}
-use Rattle.calls.specs.declared.Together.{Together}
-use Rattle.calls.specs.declared.Together.the-variants.{OneType, Selectable, SameShape}
-use Rattle.calls.specs.declared.Row.{Row}
-use Rattle.calls.specs.declared.Row.the-variants.{Absent, Unary, Binary, Ternary, Cast}
+
+-- ---- what a row says
+
+-- What is taken in an argument's place: any type, the one type of Only, or a scalar or a vector of the scalars that are named, but Vectors only a vector of them, and Matrices any matrix.
+pub data Taken : Type 0 where
+  Anything : Taken
+  Booleans : Taken
+  Numbers : Taken
+  Integers : Taken
+  Ordered : Taken
+  Floats : Taken
+  Singles : Taken
+  I32s : Taken
+  Vectors : Taken
+  Matrices : Taken
+  Only : Kind → Taken
+
+-- What is asked of arguments together.
+pub data Together : Type 0 where
+  OneType : Together
+  Selectable : Together
+  SameShape : Together
+
+-- What is taken in each place, and together. Cast is bitcast's, whose type field and whose value are taken alike.
+pub data Row : Type 0 where
+  Absent : Row
+  Unary : Taken → Row
+  Binary : Taken → Taken → Together → Row
+  Ternary : Taken → Taken → Taken → Together → Row
+  Cast : Taken → Row
 
 -- ---- what is taken in a place
 

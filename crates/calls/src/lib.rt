@@ -1,11 +1,19 @@
 // A call, and which calls are refused.
 mod refuse;
+pub mod table;
+pub mod tests;
 
 use values::Kind;
 use values::Value;
+ghost use mathlib.Core.List.{[], _∷_};
 ghost use mathlib.Core.Path.{_≡_};
-ghost use Rattle.calls.specs.Table.{builtinAt};
+ghost use Prim.Native.Nat.{_≤_, _<_};
+ghost use lib.ListN.{length};
+ghost use Rattle.buffers.specs.Memory.{put};
+ghost use Rattle.calls.specs.Table.{takes, builtinAt};
 ghost use Rattle.calls.specs.Refuse.{refusalOf};
+ghost use Rattle.calls.specs.Words.{callOf};
+ghost use Rattle.calls.specs.Program.{typesOf};
 
 // In the order of 01's table; Unknown is a name that is not in it.
 pub enum Builtin {
@@ -98,36 +106,48 @@ pub fn builtin_at(n: u64) -> Builtin
     }
 }
 
-// What is taken in an argument's place. The first is any type; Only takes the one type; the others take a scalar or a vector of the scalars that they
-// name, but Vectors only a vector of them, and Matrices any matrix.
-pub enum Taken {
-    Anything,
-    Booleans,
-    Numbers,
-    Integers,
-    Ordered,
-    Floats,
-    Singles,
-    I32s,
-    Vectors,
-    Matrices,
-    Only(Kind),
-}
-
-// What is asked of arguments together.
-pub enum Together {
-    OneType,
-    Selectable,
-    SameShape,
-}
-
-// A row of 01's table: what is taken in each place, and together. Cast is bitcast's, whose type field and whose value are taken alike.
-pub enum Row {
-    Absent,
-    Unary(Taken),
-    Binary(Taken, Taken, Together),
-    Ternary(Taken, Taken, Taken, Together),
-    Cast(Taken),
+// A builtin's number.
+pub fn number_of(b: Builtin) -> u64
+    ensures { λ r. ⌜ (builtinAt r ≡ b) × (r < 36) ⌝ }
+{
+    match b {
+        Builtin::All => 1,
+        Builtin::Any => 2,
+        Builtin::Select => 3,
+        Builtin::Abs => 4,
+        Builtin::Sign => 5,
+        Builtin::CountLeadingZeros => 6,
+        Builtin::CountOneBits => 7,
+        Builtin::CountTrailingZeros => 8,
+        Builtin::Min => 9,
+        Builtin::Max => 10,
+        Builtin::Clamp => 11,
+        Builtin::Saturate => 12,
+        Builtin::Step => 13,
+        Builtin::Cross => 14,
+        Builtin::Dot => 15,
+        Builtin::Transpose => 16,
+        Builtin::Frexp => 17,
+        Builtin::Ldexp => 18,
+        Builtin::Bitcast => 19,
+        Builtin::Pack4x8snorm => 20,
+        Builtin::Pack4x8unorm => 21,
+        Builtin::Pack4xI8 => 22,
+        Builtin::Pack4xI8Clamp => 23,
+        Builtin::Pack4xU8 => 24,
+        Builtin::Pack4xU8Clamp => 25,
+        Builtin::Pack2x16snorm => 26,
+        Builtin::Pack2x16unorm => 27,
+        Builtin::Pack2x16float => 28,
+        Builtin::Unpack4x8snorm => 29,
+        Builtin::Unpack4x8unorm => 30,
+        Builtin::Unpack4xI8 => 31,
+        Builtin::Unpack4xU8 => 32,
+        Builtin::Unpack2x16snorm => 33,
+        Builtin::Unpack2x16unorm => 34,
+        Builtin::Unpack2x16float => 35,
+        Builtin::Unknown => 0,
+    }
 }
 
 // `target` is bitcast's type field, and `count` counts it. Slots past the count are not looked at.
@@ -140,15 +160,29 @@ pub struct Call {
     pub c: Value,
 }
 
-// The refusal of a call, by its builtin's row of the table.
-pub fn refusal_of(call: Call) -> u8
-    ensures { λ r. ⌜ r ≡ refusalOf call ⌝ }
+// The types of a builtin's row, as a set.
+pub fn set_of(n: u64) -> u64
+    ensures { λ r. ⌜ r ≡ typesOf (takes (builtinAt n)) ⌝ }
 {
-    let which = call.builtin;
-    let n = call.count;
-    let t = call.target;
-    let a = call.a;
-    let b = call.b;
-    let c = call.c;
-    refuse::judge(refuse::row_of(which), n, t, a, b, c)
+    let row = table::entry_of(builtin_at(n));
+    row.set
+}
+
+// A call's first three words.
+pub fn put_head(w: &mut [u64], builtin: u64, count: u64, target: u64)
+    requires { ⌜ 3 ≤ length (now w) ⌝ }
+    ensures { λ _. ⌜ now (w .exit) ≡ put (now (w .entry)) 0 (builtin ∷ count ∷ target ∷ []) ⌝ }
+{
+    w[0] = builtin;
+    w[1] = count;
+    w[2] = target;
+}
+
+// The refusal of a call of words, 0 where there is none.
+pub fn refusal_of(w: &[u64]) -> u8
+    ensures { λ r. ⌜ r ≡ refusalOf (callOf (now (w .entry))) ⌝ }
+{
+    let row = table::entry_of(builtin_at(words::word(w, 0)));
+    let shape = row.shape;
+    refuse::judge(w, shape, words::word(w, 1), row.set)
 }

@@ -1,6 +1,8 @@
 -- An answer as one number, for a program that links the library. Definitions only.
 use Prim.Native.Nat.{ℕ, _+_, _*_, _^_}
 use Rattle.lines.specs.declared.LineAnswer.{LineAnswer}
+use Rattle.reading.specs.declared.ReadInto.{ReadInto}
+use Rattle.writing.specs.declared.Written.{Written}
 use Rattle.sorting.specs.declared.Sorted.{Sorted}
 use Rattle.diffs.specs.declared.Compared.{Compared}
 use Rattle.diffs.specs.declared.Side.{Side}
@@ -14,6 +16,14 @@ refusalOrCount refusal n = refusal * 2 ^ 32 + n
 -- of a line, the length of its answer
 abbrev pub lineNumber : LineAnswer → ℕ
 lineNumber a = refusalOrCount (a .refusal) (a .len)
+
+-- of a value's text, the place of its fault
+abbrev pub readNumber : ReadInto → ℕ
+readNumber a = refusalOrCount (a .refusal) (a .place)
+
+-- of a value, the length of its text
+abbrev pub writtenNumber : Written → ℕ
+writtenNumber a = refusalOrCount (a .refusal) (a .len)
 
 -- of a listing, how many lines it has
 abbrev pub sortNumber : Sorted → ℕ

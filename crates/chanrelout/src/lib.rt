@@ -5,14 +5,17 @@ mod number;
 ghost use mathlib.Core.Path.{_≡_};
 ghost use lib.ListN.{length};
 ghost use Rattle.half.specs.Convert.{halfOf, singleOf};
-ghost use Rattle.texts.specs.Memory.{put};
+ghost use Rattle.buffers.specs.Memory.{put};
 ghost use Rattle.lines.specs.Line as text;
-ghost use Rattle.words.specs.Words.{valueAt, refusalIn, writtenIn};
+ghost use Rattle.words.specs.Words.{valueAt};
+ghost use Rattle.builtins.specs.Words.{refusalIn, writtenIn};
+ghost use Rattle.reading.specs.Into.{readIn, wordsIn};
+ghost use Rattle.writing.specs.Into.{writtenAs, textIn};
 ghost use Rattle.order.specs.Order as order;
 ghost use Rattle.sorting.specs.Sorting.{sortedOf, indexIn};
 ghost use Rattle.diffs.specs.Diffs.{comparedIn, kindsIn};
 ghost use Rattle.diffs.specs.Places.{firstPlace};
-ghost use Rattle.chanrelout.specs.Number.{lineNumber, sortNumber, diffNumber, placeNumber};
+ghost use Rattle.chanrelout.specs.Number.{lineNumber, readNumber, writtenNumber, sortNumber, diffNumber, placeNumber};
 
 // Folds a line of 01 into its answer, without newlines. Answers the refusal's number times 2^32, or the length of what was written.
 #[no_mangle]
@@ -30,7 +33,27 @@ pub extern "C" fn chanrelout_call(call: &[u64], out: &mut [u64]) -> u8
     ensures { λ r. ⌜ (r ≡ refusalIn (length (now (out .entry))) (now (call .entry)))
         × (now (out .exit) ≡ put (now (out .entry)) 0 (writtenIn (length (now (out .entry))) (now (call .entry)))) ⌝ }
 {
-    words::fold(call, out)
+    builtins::fold(call, out)
+}
+
+// Reads a value's text into its 17 words. Answers the refusal's number times 2^32, and the place of a fault, counted from 1.
+#[no_mangle]
+pub extern "C" fn chanrelout_read_value(text: &[u8], value: &mut [u64]) -> u64
+    ensures { λ r. ⌜ (r ≡ readNumber (readIn (length (now (value .entry))) (now (text .entry))))
+        × (now (value .exit) ≡ put (now (value .entry)) 0 (wordsIn (length (now (value .entry))) (now (text .entry)))) ⌝ }
+{
+    let a = reading::read_into(text, value);
+    number::read_number(a)
+}
+
+// Writes the text of the value of these words. Answers the refusal's number times 2^32, or the length of what was written.
+#[no_mangle]
+pub extern "C" fn chanrelout_write_value(value: &[u64], out: &mut [u8]) -> u64
+    ensures { λ r. ⌜ (r ≡ writtenNumber (writtenAs (length (now (out .entry))) (valueAt (now (value .entry)) 0)))
+        × (now (out .exit) ≡ put (now (out .entry)) 0 (textIn (length (now (out .entry))) (valueAt (now (value .entry)) 0))) ⌝ }
+{
+    let a = writing::write_into(value, out);
+    number::written_number(a)
 }
 
 // How the value of the words a stands to that of b in the one order: 0 before, 1 the same, 2 after, 3 where one is not well formed.
@@ -38,8 +61,8 @@ pub extern "C" fn chanrelout_call(call: &[u64], out: &mut [u64]) -> u8
 pub extern "C" fn chanrelout_compare(a: &[u64], b: &[u64]) -> u8
     ensures { λ r. ⌜ r ≡ order.number (order.compareOf (valueAt (now (a .entry)) 0) (valueAt (now (b .entry)) 0)) ⌝ }
 {
-    let v = words::long::value_at(a, 0);
-    let w = words::long::value_at(b, 0);
+    let v = words::value_at(a, 0);
+    let w = words::value_at(b, 0);
     let c = order::compare(v, w);
     order::number_of(c)
 }

@@ -3,10 +3,12 @@ use diffs::Compared;
 use diffs::Place;
 use diffs::Side;
 use lines::LineAnswer;
+use reading::ReadInto;
 use sorting::Sorted;
+use writing::Written;
 ghost use mathlib.Core.Path.{_≡_};
 ghost use Prim.Native.Nat.{_<_, _≤_};
-ghost use Rattle.chanrelout.specs.Number.{refusalOrCount, lineNumber, sortNumber, diffNumber, sideNumber, placeNumber};
+ghost use Rattle.chanrelout.specs.Number.{refusalOrCount, lineNumber, readNumber, writtenNumber, sortNumber, diffNumber, sideNumber, placeNumber};
 
 fn refusal_or_count(refusal: u8, n: usize) -> u64
     requires { ⌜ n < 4294967296 ⌝ }
@@ -18,6 +20,20 @@ fn refusal_or_count(refusal: u8, n: usize) -> u64
 pub fn line_number(a: LineAnswer) -> u64
     requires { ⌜ a .len < 4294967296 ⌝ }
     ensures { λ r. ⌜ r ≡ lineNumber a ⌝ }
+{
+    refusal_or_count(a.refusal, a.len)
+}
+
+pub fn read_number(a: ReadInto) -> u64
+    requires { ⌜ a .place < 4294967296 ⌝ }
+    ensures { λ r. ⌜ r ≡ readNumber a ⌝ }
+{
+    refusal_or_count(a.refusal, a.place)
+}
+
+pub fn written_number(a: Written) -> u64
+    requires { ⌜ a .len < 4294967296 ⌝ }
+    ensures { λ r. ⌜ r ≡ writtenNumber a ⌝ }
 {
     refusal_or_count(a.refusal, a.len)
 }

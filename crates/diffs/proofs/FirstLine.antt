@@ -7,7 +7,7 @@ use native.Mathlib.Omega.{arith}
 use borrow.Author.Tests.{eqb-true, ltb-true, ltb-false, le-ltb}
 use lib.Dec.{ltb, eqb}
 use lib.ListN.{length, take, drop, length-take, length-drop}
-use Rattle.texts.specs.Text.{sameBytes}
+use Rattle.buffers.specs.Text.{sameBytes}
 use Rattle.stream.specs.Lines.{lines, newlineAt}
 use Rattle.listings.specs.Listing.{lineAt, nextAt, longestListing}
 use Rattle.listings.proofs.ListingLines.{lines-from, next-more}

@@ -7,8 +7,8 @@ use native.Mathlib.Omega.{arith}
 use borrow.Author.Tests.{lt-ltb, ne-eqb}
 use lib.Dec.{ltb, eqb, leb·suc-suc}
 use lib.ListN.{length, getD}
-use Rattle.texts.specs.Text.{sameBytes}
-use Rattle.texts.proofs.Lookup.{same-true, same-itself, not-same}
+use Rattle.buffers.specs.Text.{sameBytes}
+use Rattle.buffers.proofs.Lookup.{same-true, same-itself, not-same}
 use Rattle.stream.specs.Lines.{lines}
 use Rattle.kinds.specs.declared.Difference.{Difference}
 use Rattle.kinds.specs.declared.Difference.the-variants.{Alike, Missing, Refusal, OtherType, OtherValue, NanBits, ZeroSign}

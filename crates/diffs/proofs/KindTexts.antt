@@ -7,8 +7,8 @@ use native.Mathlib.Omega.{arith}
 use borrow.Author.Tests.{ne-eqb, lt-ltb, eqb-true}
 use lib.Dec.{ltb, eqb}
 use lib.ListN.{length, length-append}
-use Rattle.texts.specs.Memory.{put}
-use Rattle.texts.proofs.Puts.{Made, Tried, made, both-made, room-left}
+use Rattle.buffers.specs.Memory.{put}
+use Rattle.buffers.proofs.Puts.{Made, Tried, made, both-made, room-left}
 use Rattle.stream.specs.Printed.{digits}
 use Rattle.stream.proofs.Puts.{length-digits}
 use Rattle.diffs.specs.Text.{numberPlaces, wordAt, kindText}

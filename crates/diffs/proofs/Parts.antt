@@ -10,8 +10,8 @@ use lib.Dec.{ltb}
 use lib.ListN.{length, take, drop, getD, length-append, drop-of-length-le}
 use lib.Seq.{drop-cons}
 use Rattle.values.proofs.Bools.{both}
-use Rattle.texts.specs.Memory.{put}
-use Rattle.texts.proofs.Puts.{Made, put-nil, put-put, put-length}
+use Rattle.buffers.specs.Memory.{put}
+use Rattle.buffers.proofs.Puts.{Made, put-nil, put-put, put-length}
 use Rattle.stream.specs.Stream.{space}
 use Rattle.stream.specs.Printed.{refusedText}
 use Rattle.stream.proofs.Answers.{refused-le}

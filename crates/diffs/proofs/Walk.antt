@@ -8,9 +8,9 @@ use borrow.Author.Tests.{ltb-true, ltb-false}
 use lib.Dec.{ltb}
 use lib.ListN.{length, drop, set, length-map, drop-of-length-le}
 use lib.Seq.{drop-length}
-use Rattle.texts.specs.Text.{placeOf}
-use Rattle.texts.specs.Memory.{put}
-use Rattle.texts.proofs.Puts.{put-cons}
+use Rattle.buffers.specs.Text.{placeOf}
+use Rattle.buffers.specs.Memory.{put}
+use Rattle.buffers.proofs.Puts.{put-cons}
 use Rattle.stream.specs.Lines.{lines}
 use Rattle.listings.specs.Listing.{lineAt, nextAt}
 use Rattle.listings.proofs.ListingLines.{lines-from}

@@ -4,7 +4,7 @@ use mathlib.Core.Bool.{cond, _&&_, _||_}
 use mathlib.Core.List.{List, [], _∷_, map}
 use lib.Dec.{ltb, eqb}
 use lib.ListN.{length}
-use Rattle.texts.specs.Text.{sameBytes}
+use Rattle.buffers.specs.Text.{sameBytes}
 use Rattle.stream.specs.Lines.{lines}
 use Rattle.listings.specs.declared.Judged.{Judged}
 use Rattle.listings.specs.Listing.{judgedListing}

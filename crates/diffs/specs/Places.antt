@@ -4,7 +4,7 @@ use mathlib.Core.Bool.{Bool, cond, _&&_, _||_}
 use mathlib.Core.List.{List, [], _∷_}
 use lib.Dec.{ltb, eqb}
 use lib.ListN.{length, take, drop}
-use Rattle.texts.specs.Text.{sameBytes}
+use Rattle.buffers.specs.Text.{sameBytes}
 use Rattle.listings.specs.Listing.{lineAt, nextAt}
 use Rattle.kinds.specs.declared.Difference.{Difference}
 use Rattle.kinds.specs.declared.Difference.the-variants.{Alike, Missing}

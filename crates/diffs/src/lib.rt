@@ -6,7 +6,7 @@ ghost use mathlib.Core.Path.{_≡_};
 ghost use mathlib.Core.Bool.{cond};
 ghost use Prim.Native.Nat.{_+_, _≤_, max};
 ghost use lib.ListN.{length};
-ghost use Rattle.texts.specs.Memory.{put};
+ghost use Rattle.buffers.specs.Memory.{put};
 ghost use Rattle.stream.specs.Stream.{space};
 ghost use Rattle.diffs.specs.Diffs.{bothRefusal, comparedIn, kindsIn, firstDifference};
 ghost use Rattle.diffs.specs.Text.{numberPlaces, wordAt, kindText, diffPartText, diffPartOf};
@@ -161,12 +161,12 @@ fn put_word(out: &mut [u8], at: usize, kind: u8) -> usize
     ensures { λ r. ⌜ (r ≡ at + length (wordAt kind)) × (now (out .exit) ≡ put (now (out .entry)) at (wordAt kind)) ⌝ }
 {
     match kind {
-        1 => texts::put_bytes(out, at, b"missing"),
-        2 => texts::put_bytes(out, at, b"refusal"),
-        3 => texts::put_bytes(out, at, b"type"),
-        4 => texts::put_bytes(out, at, b"value"),
-        5 => texts::put_bytes(out, at, b"nan"),
-        6 => texts::put_bytes(out, at, b"zero"),
+        1 => buffers::put_bytes(out, at, b"missing"),
+        2 => buffers::put_bytes(out, at, b"refusal"),
+        3 => buffers::put_bytes(out, at, b"type"),
+        4 => buffers::put_bytes(out, at, b"value"),
+        5 => buffers::put_bytes(out, at, b"nan"),
+        6 => buffers::put_bytes(out, at, b"zero"),
         _ => at,
     }
 }
@@ -245,7 +245,7 @@ fn place_at(side: Side, listing: &[u8], at: usize) -> Place
 fn same_at(left: &[u8], i: usize, right: &[u8], j: usize) -> bool
     ensures { λ r. ⌜ r ≡ sameAt (now (left .entry)) i (now (right .entry)) j ⌝ }
 {
-    let same = texts::same(listings::line_at(left, i), listings::line_at(right, j));
+    let same = buffers::same(listings::line_at(left, i), listings::line_at(right, j));
     (i < left.len()) & (j < right.len()) & same
 }
 

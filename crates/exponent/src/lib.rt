@@ -5,7 +5,7 @@ ghost use mathlib.Core.Bool.{cond};
 ghost use Prim.Native.Nat.{_+_, _*_, _^_, _≤_, _<_};
 ghost use lib.Ieee.{up, down};
 ghost use Rattle.half.specs.Format.{f32, units, magnitudeOf};
-ghost use Rattle.values.specs.Four.{four, four2};
+ghost use Rattle.values.specs.Program.{four, four2};
 ghost use Rattle.exponent.specs.Exponent.{fraction, exponent, fractionLane, exponentLane, integer, ldexpLane};
 ghost use Rattle.exponent.specs.Leads.{format, Leads};
 

@@ -7,7 +7,7 @@ ghost use Prim.Native.Nat.{_+_, _-_, _^_, _≤_, _<_};
 ghost use mathlib.Core.Bool.{cond};
 ghost use mathlib.Core.Path.{_≡_};
 ghost use lib.ListN.{length, take};
-ghost use Rattle.texts.specs.Memory.{put};
+ghost use Rattle.buffers.specs.Memory.{put};
 ghost use Rattle.stream.specs.Stream.{space, stepLines, textOf, readOf};
 ghost use Rattle.stream.specs.Turns.{Filled, Turn, Pumped};
 

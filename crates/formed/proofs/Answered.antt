@@ -15,30 +15,28 @@ use Rattle.values.specs.declared.Kind.{Kind}
 use Rattle.values.specs.declared.Kind.the-variants.{One, Vec}
 use Rattle.values.specs.declared.Value.{Value}
 use Rattle.values.specs.Value.{scalarOf, sameKind, lanesOf, lane, value, every, lanewise, lanewise2, lanewise3, Formed}
-use Rattle.values.specs.Four.{isLanes}
+use Rattle.values.specs.Program.{isLanes}
 use Rattle.values.proofs.Bools.{both, and}
 use Rattle.values.proofs.Places.{same}
 use Rattle.calls.specs.declared.Builtin.{Builtin}
 use Rattle.calls.specs.declared.Builtin.the-variants.{All, Any, Select, Abs, Sign, CountLeadingZeros, CountOneBits, CountTrailingZeros, Min, Max, Clamp, Saturate, Step, Cross, Dot, Transpose, Frexp, Ldexp, Bitcast, Pack4x8snorm, Pack4x8unorm, Pack4xI8, Pack4xI8Clamp, Pack4xU8, Pack4xU8Clamp, Pack2x16snorm, Pack2x16unorm, Pack2x16float, Unpack4x8snorm, Unpack4x8unorm, Unpack4xI8, Unpack4xU8, Unpack2x16snorm, Unpack2x16unorm, Unpack2x16float, Unknown}
-use Rattle.calls.specs.declared.Row.the-variants.{Unary, Binary, Ternary}
-use Rattle.calls.specs.declared.Taken.{Taken}
-use Rattle.calls.specs.declared.Taken.the-variants.{Anything, Booleans, Numbers, Integers, Ordered, Floats, Singles, I32s, Matrices, Only}
-use Rattle.calls.specs.declared.Together.the-variants.{OneType, Selectable, SameShape}
-use Rattle.calls.specs.Table.{taken, takes}
+use Rattle.calls.specs.Table.{Unary, Binary, Ternary, Taken, Anything, Booleans, Numbers, Integers, Ordered, Floats, Singles, I32s, Matrices, Only, OneType, Selectable, SameShape, taken, takes}
 use Rattle.calls.specs.Refuse.{judged}
-use Rattle.calls.specs.Passed.{Passed, Passed3}
+use Rattle.calls.specs.Program.{Passed, Passed3}
 use Rattle.calls.proofs.Passed.{unary, binary, ternary, cast}
-use Rattle.numeric.specs.Numeric.{leadingLane, onesLane, trailingLane, saturateLane, crossLane}
+use Rattle.numeric.specs.Numeric.{leadingLane, onesLane, trailingLane}
+use Rattle.limits.specs.Limits.{saturateLane}
+use Rattle.products.specs.Products.{crossLane}
 use Rattle.exponent.specs.Exponent.{fractionLane, exponentLane, ldexpLane}
 use Rattle.exponent.proofs.Bounds.{fraction-lane-below, exponent-lane-below, ldexp-lane-below}
 use Rattle.builtins.specs.Exponent.{fractionOf, exponentOf}
-use Rattle.builtins.specs.Formats.{x8snorm, x8unorm, xI8, xU8, x16snorm, x16unorm, x16float}
+use Rattle.formats.specs.Formats.{x8snorm, x8unorm, xI8, xU8, x16snorm, x16unorm, x16float}
 use Rattle.builtins.specs.Logical.{flag, allOf, anyOf, selectLane, selectOf}
 use Rattle.builtins.specs.Numeric.{crossOf, dotOf, transposeOf}
 use Rattle.builtins.specs.Fold.{answered, answeredTwice, answerBy}
-use Rattle.builtins.proofs.Answers.{folds, unrefused}
+use Rattle.builtins.proofs.Folded.{folds, unrefused}
 use Rattle.builtins.proofs.Chosen.{by-scalar, by-vector, lanes-to-choose}
-use Rattle.builtins.proofs.LaneLaws.{laws}
+use Rattle.formats.proofs.LaneLaws.{laws}
 use Rattle.formed.specs.Answers.{AnswerFormed, AnswersFormed}
 use Rattle.formed.proofs.LaneBounds.{bound, one-of, abs-below, sign-below, leading-below, ones-below, trailing-below, max-below, min-below, clamp-below, saturate-below, step-below, cross-below, dot-below}
 use Rattle.formed.proofs.Values.{made, one-lane, Within, within, isWide, wide, each1, each2, each3, integers, transposed-formed, packed-formed, unpacked-formed, filled-formed, bitcast-formed}

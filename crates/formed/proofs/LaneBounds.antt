@@ -17,7 +17,9 @@ use Rattle.half.proofs.Signs.{signed-below}
 use Rattle.values.specs.declared.Scalar.{Scalar}
 use Rattle.values.specs.declared.Scalar.the-variants.{Boolean, I32, U32, F32, F16}
 use Rattle.values.specs.Value.{laneBits}
-use Rattle.numeric.specs.Numeric.{one, absLane, signFloat, signLane, leadingLane, onesLane, trailingLane, above, maxLane, minLane, clampLane, saturateLane, stepLane, crossLane, summed, dotWord, dotLane}
+use Rattle.numeric.specs.Numeric.{one, absLane, signFloat, signLane, leadingLane, onesLane, trailingLane}
+use Rattle.limits.specs.Limits.{above, maxLane, minLane, clampLane, saturateLane, stepLane}
+use Rattle.products.specs.Products.{crossLane, summed, dotWord, dotLane}
 use Rattle.numeric.proofs.Counts.{ones-are, leading-are, trailing-are}
 
 -- what a lane of the scalar is below

@@ -19,22 +19,23 @@ use Rattle.values.specs.declared.Kind.{Kind}
 use Rattle.values.specs.declared.Kind.the-variants.{Empty, One, Vec, Mat}
 use Rattle.values.specs.declared.Value.{Value}
 use Rattle.values.specs.Value.{laneBits, sizeOf, ofWidth, scalarOf, laneCount, isType, shaped, kinds, lanesOf, lane, value, lanewise, lanewise2, lanewise3, Formed}
-use Rattle.values.specs.Four.{low, isLanes}
+use Rattle.values.specs.Program.{low, isLanes}
 use Rattle.values.proofs.Bools.{both, and}
 use Rattle.values.proofs.Formed.{is-type, lane-below, lane-narrow, formed, lanes-16}
 use Rattle.values.proofs.Lanes.{few, lanes1-as, lanes1, lanes2, lanes3}
 use Rattle.values.proofs.Places.{same, all, each, lanes-at-most-16}
 use Rattle.numeric.specs.Parts.{parts, joined}
-use Rattle.calls.specs.declared.Taken.the-variants.{Numbers, Only}
-use Rattle.calls.specs.Table.{taken}
-use Rattle.calls.specs.Passed.{Passed}
+use Rattle.calls.specs.Table.{Numbers, Only, taken}
+use Rattle.calls.specs.Program.{Passed}
 use Rattle.builtins.specs.Bitcast.{laneBytes, bytesOf, ofBytes, bitcastOf}
 use Rattle.builtins.specs.Numeric.{upTo, transposed}
 use Rattle.builtins.specs.Pack.{filling, filled, word, packed, unpacked}
-use Rattle.builtins.proofs.Bytes.{below, below-split, bytes-below, lanes-length}
-use Rattle.builtins.proofs.LaneLaws.{Coding, Laws}
+use Rattle.builtins.proofs.Bytes.{below}
+use Rattle.builtins.proofs.Parts.{length-parts}
 use Rattle.builtins.proofs.Transposing.{mapped-length}
-use Rattle.builtins.proofs.Words.{length-parts, parts-below}
+use Rattle.formats.proofs.Codes.{parts-below}
+use Rattle.formats.proofs.LaneLaws.{Coding, Laws}
+use Rattle.formed.proofs.Bytes.{below-split, bytes-below, lanes-length}
 use Rattle.formed.proofs.LaneBounds.{bound}
 
 pub made : (k : Kind) (xs : List ℕ) → isType k ≡ true → length xs ≡ laneCount k → below (bound (scalarOf k)) xs ≡ true → Formed (value k xs)
@@ -158,7 +159,7 @@ of-bytes-below k (suc n) bs t =
     let s = below-split (2 ^ 8) k bs t in
     and (lt-ltb (joined 8 (take k bs)) (2 ^ (k * 8)) (joined-below 8 k (take k bs) (simp length-take (omega arith)) (s .0))) (of-bytes-below k n (drop k bs) (s .1))
 
-whole-bytes : (k : Kind) → taken Numbers k ≡ true → laneBytes k * 8 ≡ laneBits (scalarOf k)
+pub whole-bytes : (k : Kind) → taken Numbers k ≡ true → laneBytes k * 8 ≡ laneBits (scalarOf k)
 whole-bytes k t = eqb-true (laneBytes k * 8) (laneBits (scalarOf k)) (within (taken Numbers) (λ l. eqb (laneBytes l * 8) (laneBits (scalarOf l))) refl k t)
 
 pub bitcast-formed : (t : Kind) (v : Value) → isType t ≡ true → taken Numbers t ≡ true → Formed (bitcastOf t v)

@@ -6,8 +6,7 @@ use lib.ListN.{length}
 use Rattle.values.specs.Value.{shaped, emptyValue, Formed}
 use Rattle.values.specs.declared.Scalar.the-variants.{I32}
 use Rattle.values.specs.declared.Value.{Value}
-use Rattle.calls.specs.Table.{taken}
-use Rattle.calls.specs.declared.Taken.the-variants.{Floats}
+use Rattle.calls.specs.Table.{Floats, taken}
 use Rattle.calls.specs.declared.Call.{Call}
 use Rattle.builtins.specs.declared.Answer.{Answer}
 use Rattle.builtins.specs.Fold.{foldOf}

@@ -86,21 +86,23 @@ fn subnormal_magnitude(m: u32) -> u32
     (133 - l) * 0x80_0000 + (m << (l - 8))
 }
 
-// Exact. Each kind of half is worked out and one chosen, so that no half waits for a jump.
-fn single_magnitude(m: u32) -> u32
+// Of what is no normal half: zero, a subnormal, the infinity. Each is worked out and one chosen.
+fn other_magnitude(m: u32) -> u32
     requires { ⌜ m < 0x8000 ⌝ }
-    ensures { λ r. ⌜ (m ≤ 0x7c00 → r ≡ convertedMagnitude f16 f32 m) × (r < 0x8000_0000) ⌝ }
+    ensures { λ r. ⌜ (m < 1024 → r ≡ convertedMagnitude f16 f32 m) × (m ≡ 0x7c00 → r ≡ convertedMagnitude f16 f32 m) × (r < 0x8000_0000) ⌝ }
 {
     let small = choose(m == 0, 0, subnormal_magnitude(m));
-    let finite = choose(m < 1024, small, normal_magnitude(m));
-    choose(m == 0x7c00, 0x7f80_0000, finite)
+    choose(m == 0x7c00, 0x7f80_0000, small)
 }
 
-// The sign stands in front of the f32's magnitude. Every NaN is 7FC00000.
+// The sign stands in front of the f32's magnitude. Every NaN is 7FC00000. Exact: one test parts the normal halves, and no jump stands behind it.
 pub fn f16_to_f32(h: u16) -> u32
     ensures { λ r. ⌜ r ≡ singleOf h ⌝ }
 {
     let m = (h % 0x8000) as u32;
     let sign = (h / 0x8000) as u32 * 0x8000_0000;
-    choose(m > 0x7c00, 0x7fc0_0000, sign + single_magnitude(m))
+    if (1024 <= m) & (m < 0x7c00) {
+        return sign + normal_magnitude(m);
+    }
+    choose(m > 0x7c00, 0x7fc0_0000, sign + other_magnitude(m))
 }

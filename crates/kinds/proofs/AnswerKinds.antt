@@ -15,7 +15,7 @@ use Rattle.values.specs.declared.Value.{Value}
 use Rattle.values.proofs.Bools.{both, and}
 use Rattle.values.proofs.Formed.{whole}
 use Rattle.values.proofs.Places.{placed, lanes-at-most-16}
-use Rattle.texts.proofs.Lookup.{same-true, not-same}
+use Rattle.buffers.proofs.Lookup.{same-true, not-same}
 use Rattle.listings.specs.declared.Answered.{Answered}
 use Rattle.listings.specs.Answers.{readAnswer}
 use Rattle.listings.proofs.AnswerValues.{values-formed}

@@ -5,8 +5,8 @@ use mathlib.Core.List.{List}
 use mathlib.Core.Logic.{_⊎_, inl, inr, ⊎-elim}
 use mathlib.Core.Path.{_≡_, refl, ap, subst}
 use Rattle.values.specs.Value.{isType}
-use Rattle.texts.specs.Text.{sameBytes}
-use Rattle.texts.proofs.Lookup.{same-true, same-itself, same-false}
+use Rattle.buffers.specs.Text.{sameBytes}
+use Rattle.buffers.proofs.Lookup.{same-true, same-itself, same-false}
 use Rattle.listings.specs.declared.Answered.{Answered}
 use Rattle.listings.specs.Answers.{readAnswer}
 use Rattle.kinds.specs.declared.Difference.{Difference}

@@ -9,7 +9,7 @@ use Rattle.values.specs.declared.Scalar.{Scalar}
 use Rattle.values.specs.declared.Scalar.the-variants.{Boolean, I32, U32, F32, F16}
 use Rattle.values.specs.declared.Value.{Value}
 use Rattle.values.specs.Value.{scalarOf, laneCount, sameKind}
-use Rattle.texts.specs.Text.{bytes, sameBytes}
+use Rattle.buffers.specs.Text.{bytes, sameBytes}
 use Rattle.listings.specs.declared.Answered.{Answered}
 use Rattle.listings.specs.Answers.{readAnswer}
 use Rattle.kinds.specs.declared.Difference.{Difference}

@@ -6,7 +6,7 @@ ghost use mathlib.Core.Path.{_≡_};
 ghost use mathlib.Core.List.{map};
 ghost use Prim.Native.Nat.{_<_, _≤_};
 ghost use lib.ListN.{take};
-ghost use Rattle.texts.specs.Text.{sameBytes};
+ghost use Rattle.buffers.specs.Text.{sameBytes};
 ghost use Rattle.kinds.specs.Kinds.{kindNumber, normalFloat, normalLane, sameTypes, sameLanes, sameAnswers, answerKind, lineKind};
 
 // The kind of a difference, the first that applies; Alike is none.
@@ -139,7 +139,7 @@ fn answer_kind(a: Answered, b: Answered) -> Difference
 pub fn line_kind(left: &[u8], right: &[u8]) -> Difference
     ensures { λ r. ⌜ r ≡ lineKind (now (left .entry)) (now (right .entry)) ⌝ }
 {
-    if texts::same(left, right) {
+    if buffers::same(left, right) {
         return Difference::Alike;
     }
     answer_kind(listings::read_answer(left), listings::read_answer(right))

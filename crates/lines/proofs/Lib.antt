@@ -1,5 +1,2 @@
 pub mod Tabs
-pub mod CallWords
-pub mod NamePlaces
-pub mod NameSlots
 pub mod Written

@@ -1,6 +1,6 @@
 -- The first field ends at the first tab, and the others are those of what follows it: by induction on the line. So fields taken off one after another are the line's,
 -- and the tabs that end them, with those that follow the last, are all its tabs. Assumes nothing.
-use Prim.Native.Nat.{ℕ, zero, suc, _+_, _<_, _≤_}
+use Prim.Native.Nat.{ℕ, zero, suc, _+_, _-_, _<_, _≤_}
 use mathlib.Core.List.{List, [], _∷_}
 use mathlib.Core.Bool.{Bool, true, false, cond}
 use mathlib.Core.Path.{_≡_, refl, ap, sym, _∙_}
@@ -8,11 +8,11 @@ use native.Mathlib.Nat.{zero-add}
 use native.Mathlib.Numerals.{add-one}
 use native.Mathlib.Omega.{arith}
 use lib.ListN.{length, take, drop, getD, drop-of-length-le}
-use lib.Seq.{drop-cons, drop-length, length-take-le}
+use lib.Seq.{drop-cons, drop-drop, drop-length, length-take-le}
 use lib.Dec.{ltb, eqb, leb·suc-suc}
 use borrow.Author.Tests.{lt-ltb, ltb-false}
-use Rattle.texts.specs.Text.{placeOf}
-use Rattle.texts.proofs.FirstPlace.{place-le}
+use Rattle.buffers.specs.Text.{placeOf}
+use Rattle.buffers.proofs.FirstPlace.{place-le}
 use Rattle.lines.specs.Fields.{tab, fields, fieldAt, onFirst, argumentCount}
 
 -- where the first tab stands, or the length
@@ -50,19 +50,32 @@ pub field-length : (s : List ℕ) → length (fieldAt s 0) ≡ tabAt s
 field-length s = rw (field-here s) (length-take-le (tabAt s) s (place-le tab s))
 
 -- a later field is one of what follows the first tab; past the last tab both are empty
+empty : (k : ℕ) → fieldAt [] k ≡ []
+unfolding fieldAt fields
+empty zero = refl
+empty (suc k) = refl
+
 field-next : (s : List ℕ) (k : ℕ) → fieldAt s (suc k) ≡ fieldAt (rest s) k
 unfolding fieldAt fields
 field-next s k = by (ltb (tabAt s) (length s)) refl
   where
-    empty : (k : ℕ) → fieldAt [] k ≡ []
-    empty zero = refl
-    empty (suc k) = refl
-
     by : (t : Bool) → ltb (tabAt s) (length s) ≡ t → getD (fields s) (suc k) [] ≡ getD (fields (rest s)) k []
     by true e = rw (cut s, e, add-one)
     by false e =
         let d : rest s ≡ [] = drop-of-length-le s {i = tabAt s + 1} (omega (arith, ltb-false (tabAt s) (length s) e)) in
         rw (cut s, e, d) (sym (empty k))
+
+-- the fields from `at` on, past one that ends n bytes further
+pub field-step : (s : List ℕ) (at n k : ℕ) → 0 < k → n ≡ tabAt (drop at s) → fieldAt (drop at s) k ≡ fieldAt (drop (at + (n + 1)) s) (k - 1)
+field-step s at n zero h e = absurd (omega arith)
+field-step s at n (suc k) h e =
+    let back : suc k - 1 ≡ k = omega arith in
+    field-next (drop at s) k ∙ rw (← e, drop-drop (n + 1) at s, back)
+
+-- where no tab follows there is no further field
+pub field-missing : (t : List ℕ) (n k : ℕ) → 0 < k → n ≡ tabAt t → n ≡ length t → fieldAt t k ≡ []
+field-missing t n zero h e l = absurd (omega arith)
+field-missing t n (suc k) h e l = field-next t k ∙ rw (drop-of-length-le t {i = tabAt t + 1} (omega arith)) (empty k)
 
 -- a byte more is counted
 pub count-step : (s : List ℕ) (i x : ℕ) → i < length s → x ≡ cond (eqb (getD s i 0) 9) 1 0 → argumentCount (drop i s) ≡ x + argumentCount (drop (i + 1) s)
@@ -103,26 +116,37 @@ count-most (x ∷ xs) = by (eqb x tab) (count-most xs)
 
 -- the first field of t has n bytes, and u is what follows it
 abbrev pub Off : List ℕ → ℕ → List ℕ → Type 0
-Off t n u = (n ≡ length (fieldAt t 0)) × (u ≡ drop (n + 1) t)
+Off t n u = (n ≡ tabAt t) × (u ≡ drop (n + 1) t)
 
 module _ (t : List ℕ) (n : ℕ) (u : List ℕ) (o : Off t n u) where
-  ends : n ≡ tabAt t
-  ends = o .0 ∙ field-length t
-
   left : u ≡ rest t
-  left = o .1 ∙ ap (λ (m : ℕ). drop (m + 1) t) ends
+  left = o .1 ∙ ap (λ (m : ℕ). drop (m + 1) t) (o .0)
 
-  pub next : (k : ℕ) → fieldAt u k ≡ fieldAt t (suc k)
+  next : (k : ℕ) → fieldAt u k ≡ fieldAt t (suc k)
   next k = rw left (sym (field-next t k))
 
-  counted : cond (ltb n (length t)) 1 0 + argumentCount u ≡ argumentCount t
-  counted = rw (left, ends) (sym (count-next t))
+  -- what stands before u's first tab
+  next-first : take (tabAt u) u ≡ fieldAt t 1
+  next-first = sym (field-here u) ∙ next 0
 
--- the first fields of what is left are a line's second, third and fourth, and a number is its number of tabs
+  pub next-length : length (fieldAt t 1) ≡ tabAt u
+  next-length = ap length (sym (next 0)) ∙ field-length u
+
+  counted : cond (ltb n (length t)) 1 0 + argumentCount u ≡ argumentCount t
+  counted = rw (left, o .0) (sym (count-next t))
+
+module _ (line t1 t2 : List ℕ) (n0 n1 : ℕ) (o : Off line n0 t1) (p : Off t1 n1 t2) where
+  past-two : (k : ℕ) → fieldAt t2 k ≡ fieldAt line (suc (suc k))
+  past-two k = next t1 n1 t2 p k ∙ next line n0 t1 o (suc k)
+
+  pub third : take (tabAt t2) t2 ≡ fieldAt line 2
+  third = sym (field-here t2) ∙ past-two 0
+
+-- what stands before the first tab of what is left is a line's second field, third and fourth, and a number is its number of tabs
 pub record Apart (line t1 t2 t3 : List ℕ) (n : ℕ) : Type 0 where
-  pub field-1 : fieldAt t1 0 ≡ fieldAt line 1
-  pub field-2 : fieldAt t2 0 ≡ fieldAt line 2
-  pub field-3 : fieldAt t3 0 ≡ fieldAt line 3
+  pub field-1 : take (tabAt t1) t1 ≡ fieldAt line 1
+  pub field-2 : take (tabAt t2) t2 ≡ fieldAt line 2
+  pub field-3 : take (tabAt t3) t3 ≡ fieldAt line 3
   pub tabs : n ≡ argumentCount line
 
 module _ (line t1 t2 t3 t4 : List ℕ) (n0 n1 n2 n3 : ℕ) (o : Off line n0 t1) (p : Off t1 n1 t2) (q : Off t2 n2 t3) (r : Off t3 n3 t4) where
@@ -130,10 +154,9 @@ module _ (line t1 t2 t3 t4 : List ℕ) (n0 n1 n2 n3 : ℕ) (o : Off line n0 t1) 
       → c ≡ cond (ltb n2 (length t2)) 1 0 → d ≡ cond (ltb n3 (length t3)) 1 0 → n ≡ argumentCount t4
       → Apart line t1 t2 t3 (a + b + c + d + n)
   apart a b c d n ea eb ec ed en =
-      let second-of : (k : ℕ) → fieldAt t2 k ≡ fieldAt line (suc (suc k)) = λ k. next t1 n1 t2 p k ∙ next line n0 t1 o (suc k) in
       record {
-        field-1 = next line n0 t1 o 0;
-        field-2 = second-of 0;
-        field-3 = next t2 n2 t3 q 0 ∙ second-of 1;
+        field-1 = next-first line n0 t1 o;
+        field-2 = third line t1 t2 n0 n1 o p;
+        field-3 = next-first t2 n2 t3 q ∙ past-two line t1 t2 n0 n1 o p 1;
         tabs = omega (arith, counted line n0 t1 o, counted t1 n1 t2 p, counted t2 n2 t3 q, counted t3 n3 t4 r);
       }

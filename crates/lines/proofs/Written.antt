@@ -1,31 +1,35 @@
--- What a line's answer says by its refusal and its room, and how long it can be. Assumes nothing.
+-- What a line's answer says by its refusal and its room, and how long its two parts are. Assumes nothing.
 use Prim.Native.Nat.{ℕ, _+_, _<_, _≤_}
 use mathlib.Core.Bool.{Bool, true, false, cond}
 use mathlib.Core.List.{List, [], _∷_, _++_}
 use mathlib.Core.Path.{_≡_, refl, ap, sym, _∙_}
 use native.Mathlib.Omega.{arith}
 use native.Mathlib.Nat.{zero-add}
+use borrow.Author.Tests.{ne-eqb}
 use lib.Dec.{eqb}
 use lib.ListN.{length, length-append}
-use Rattle.values.specs.Value.{isType, kindAt, value}
 use Rattle.values.specs.declared.Value.{Value}
-use Rattle.builtins.specs.declared.Answer.{Answer}
-use Rattle.texts.specs.Memory.{put}
-use Rattle.spelling.specs.Write.{textOf}
-use Rattle.shorts.specs.Shorts.{longOf}
-use Rattle.shorts.proofs.ByPlace.{typed}
-use Rattle.spelling.proofs.Texts.{at-most-155}
-use Rattle.texts.proofs.Puts.{Made, both-made, put-nil, given-refused, given-short, given-room}
+use Rattle.values.specs.Value.{isType, place, kindAt}
+use Rattle.values.proofs.Places.{there}
+use Rattle.buffers.specs.Memory.{put}
+use Rattle.buffers.proofs.Puts.{Made, both-made, put-nil, given-refused, given-short, given-room}
+use Rattle.words.specs.Words.{valueAt}
+use Rattle.words.proofs.Tables.{typed}
+use Rattle.builtins.proofs.Called.{lanes-16}
+use Rattle.spelling.specs.Write.{textOf, textLength}
+use Rattle.spelling.proofs.Texts.{text-16, at-most-155}
 use Rattle.lines.specs.Fields.{tab}
 use Rattle.lines.specs.Line.{lineOf, refusalOf, secondText, answerOf, refusalIn, writtenIn, lineAnswer}
+use Rattle.lines.specs.Program.{secondLength}
 
--- of a line's answer
+-- ---- of a line's answer
+
 module _ (room : ℕ) (line : List ℕ) where
   pub in-refused : (refusalOf line ≡ 0 → ⊥) → (refusalIn room line ≡ refusalOf line) × (writtenIn room line ≡ [])
   unfolding refusalIn writtenIn
   in-refused = given-refused room (length (answerOf line)) (refusalOf line) (answerOf line)
 
-  pub in-short : refusalOf line ≡ 0 → room < length (answerOf line) → (refusalIn room line ≡ 8) × (writtenIn room line ≡ [])
+  in-short : refusalOf line ≡ 0 → room < length (answerOf line) → (refusalIn room line ≡ 8) × (writtenIn room line ≡ [])
   unfolding refusalIn writtenIn
   in-short = given-short room (length (answerOf line)) (refusalOf line) (answerOf line)
 
@@ -33,57 +37,72 @@ module _ (room : ℕ) (line : List ℕ) where
   unfolding refusalIn writtenIn
   in-room = given-room room (length (answerOf line)) (refusalOf line) (answerOf line)
 
--- the same of what the line gives
-module _ (line : List ℕ) {a : Answer} (e : a ≡ lineOf line) where
-  pub refusal-is : a .refusal ≡ refusalOf line
-  unfolding refusalOf
-  refusal-is = ap (λ (x : Answer). x .refusal) e
+-- ---- what the code does of the answer, by its refusal and its room
 
-  pub answer-is : textOf (a .first) ++ secondText (a .second) ≡ answerOf line
-  unfolding answerOf
-  answer-is = ap (λ (x : Answer). textOf (x .first) ++ secondText (x .second)) e
+module _ (o line : List ℕ) where
+  pub refused-so : {r : ℕ} → r ≡ lineOf line .refusal → (r ≡ 0 → ⊥) → (record { refusal = r; len = 0 } ≡ lineAnswer (length o) line) × (o ≡ put o 0 (writtenIn (length o) line))
+  unfolding lineAnswer refusalOf
+  refused-so e h =
+      let w = in-refused (length o) line (λ z. h (e ∙ z)) in
+      (rw (w .0, w .1, ← e), sym (ap (put o 0) (w .1) ∙ put-nil o 0))
 
-  pub answer-length : length (answerOf line) ≡ length (textOf (a .first)) + length (secondText (a .second))
-  answer-length = ap length (sym answer-is) ∙ length-append (textOf (a .first)) (secondText (a .second))
+  module _ {v u : Value} (z : lineOf line .refusal ≡ 0) (ev : v ≡ lineOf line .first) (eu : u ≡ lineOf line .second) where
+    text : textOf v ++ secondText u ≡ answerOf line
+    unfolding answerOf
+    text = rw (ev, eu)
 
--- ---- what the code does of an answer, by its refusal and its room
+    text-length : length (answerOf line) ≡ length (textOf v) + length (secondText u)
+    text-length = ap length (sym text) ∙ length-append (textOf v) (secondText u)
 
-module _ (o line : List ℕ) {a : Answer} (e : a ≡ lineOf line) where
-  pub refused-so : (a .refusal ≡ 0 → ⊥) → (record { refusal = a .refusal; len = 0 } ≡ lineAnswer (length o) line) × (o ≡ put o 0 (writtenIn (length o) line))
-  unfolding lineAnswer
-  refused-so h =
-      let r = refusal-is line e in
-      let w = in-refused (length o) line (λ z. h (r ∙ z)) in
-      (rw (w .0, w .1, ← r), sym (ap (put o 0) (w .1) ∙ put-nil o 0))
+    pub short-so : length o < length (textOf v) + length (secondText u) → (record { refusal = 8; len = 0 } ≡ lineAnswer (length o) line) × (o ≡ put o 0 (writtenIn (length o) line))
+    unfolding lineAnswer refusalOf
+    short-so h =
+        let w = in-short (length o) line z (omega (arith, text-length)) in
+        (rw (w .0, w .1), sym (ap (put o 0) (w .1) ∙ put-nil o 0))
 
-  pub short-so : a .refusal ≡ 0 → length o < length (textOf (a .first)) + length (secondText (a .second))
-      → (record { refusal = 8; len = 0 } ≡ lineAnswer (length o) line) × (o ≡ put o 0 (writtenIn (length o) line))
-  unfolding lineAnswer
-  short-so z h =
-      let w = in-short (length o) line (sym (refusal-is line e) ∙ z) (omega (arith, answer-length line e)) in
-      (rw (w .0, w .1), sym (ap (put o 0) (w .1) ∙ put-nil o 0))
+    pub answered-so : length (textOf v) + length (secondText u) ≤ length o → {n r : ℕ} {o′ o″ : List ℕ} → Made o 0 (textOf v) n o′ → Made o′ n (secondText u) r o″
+        → (record { refusal = 0; len = r } ≡ lineAnswer (length o) line) × (o″ ≡ put o 0 (writtenIn (length o) line))
+    unfolding lineAnswer refusalOf
+    answered-so h f g =
+        let room : 0 + length (textOf v ++ secondText u) ≤ length o = omega (arith, length-append (textOf v) (secondText u)) in
+        let w = in-room (length o) line z (omega (arith, text-length)) in
+        let m = both-made o 0 (textOf v) (secondText u) room f g in
+        (rw (w .0, w .1, ← text, m .0, zero-add), m .1 ∙ ap (put o 0) (text ∙ sym (w .1)))
 
-  pub answered-so : a .refusal ≡ 0 → length (textOf (a .first)) + length (secondText (a .second)) ≤ length o → {n r : ℕ} {o′ o″ : List ℕ}
-      → Made o 0 (textOf (a .first)) n o′ → Made o′ n (secondText (a .second)) r o″
-      → (record { refusal = 0; len = r } ≡ lineAnswer (length o) line) × (o″ ≡ put o 0 (writtenIn (length o) line))
-  unfolding lineAnswer
-  answered-so z h f g =
-      let room : 0 + length (textOf (a .first) ++ secondText (a .second)) ≤ length o = omega (arith, length-append (textOf (a .first)) (secondText (a .second))) in
-      let w = in-room (length o) line (sym (refusal-is line e) ∙ z) (omega (arith, answer-length line e)) in
-      let m = both-made o 0 (textOf (a .first)) (secondText (a .second)) room f g in
-      let x = answer-is line e in
-      (rw (w .0, w .1, ← x, m .0, zero-add), m .1 ∙ ap (put o 0) (x ∙ sym (w .1)))
+-- ---- a second value
 
--- a second value by its type's place
-pub second-none : (p : ℕ) (x : List ℕ) → p ≡ 0 → secondText (longOf p x) ≡ []
-unfolding secondText value kindAt
-second-none p x e = rw e
+module _ (v : Value) where
+  second-by : (t : Bool) → length (v .lanes) ≡ 16 → length (cond t (tab ∷ textOf v) []) ≡ cond t (textLength (v .kind) + 1) 0
+  second-by true l = omega (arith, text-16 v l)
+  second-by false l = refl
 
-pub second-some : (p : ℕ) (x : List ℕ) → (p ≡ 0 → ⊥) → p ≤ 20 → secondText (longOf p x) ≡ (tab ∷ []) ++ textOf (longOf p x)
-unfolding secondText value
-second-some p x h k = rw (typed p (omega arith) k)
+  second-length : length (v .lanes) ≡ 16 → length (secondText v) ≡ secondLength (v .kind)
+  unfolding secondText secondLength
+  second-length = second-by (isType (v .kind))
 
--- no answer is longer than two values and a tab
+  -- by its type's place
+  pub second-none : place (v .kind) ≡ 0 → secondText v ≡ []
+  unfolding secondText
+  second-none e = rw (← (typed (v .kind)), e)
+
+  pub second-some : (place (v .kind) ≡ 0 → ⊥) → secondText v ≡ (tab ∷ []) ++ textOf v
+  unfolding secondText
+  second-some h = rw (← (typed (v .kind)), ne-eqb (place (v .kind)) 0 h)
+
+-- ---- how long the texts of values among words are, by the places of their types
+
+module _ (a : List ℕ) (at : ℕ) {p : ℕ} (e : p ≡ place (valueAt a at .kind)) where
+  kind-there : kindAt p ≡ valueAt a at .kind
+  kind-there = rw e (there (valueAt a at .kind))
+
+  pub text-there : {n : ℕ} → n ≡ textLength (kindAt p) → n ≡ length (textOf (valueAt a at))
+  text-there en = en ∙ ap textLength kind-there ∙ sym (text-16 (valueAt a at) (lanes-16 a at))
+
+  pub second-there : {n : ℕ} → n ≡ secondLength (kindAt p) → n ≡ length (secondText (valueAt a at))
+  second-there en = en ∙ ap secondLength kind-there ∙ sym (second-length (valueAt a at) (lanes-16 a at))
+
+-- ---- no answer is longer than two values and a tab
+
 second-most : (v : Value) → length (secondText v) ≤ 156
 unfolding secondText
 second-most v = by (isType (v .kind))
@@ -93,7 +112,8 @@ second-most v = by (isType (v .kind))
     by false = omega arith
 
 pub answer-most : (line : List ℕ) → length (answerOf line) ≤ 311
-answer-most line = omega (arith, answer-length line refl, at-most-155 (lineOf line .first), second-most (lineOf line .second))
+unfolding answerOf
+answer-most line = omega (arith, length-append (textOf (lineOf line .first)) (secondText (lineOf line .second)), at-most-155 (lineOf line .first), second-most (lineOf line .second))
 
 pub written-most : (room : ℕ) (line : List ℕ) → length (writtenIn room line) ≤ 311
 unfolding writtenIn

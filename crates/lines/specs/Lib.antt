@@ -1,4 +1,3 @@
 pub mod Fields
-pub mod Names
-pub mod Slots
 pub mod Line
+pub mod Program

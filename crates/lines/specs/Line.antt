@@ -13,13 +13,13 @@ use Rattle.calls.specs.declared.Builtin.the-variants.{Bitcast}
 use Rattle.calls.specs.declared.Call.{Call}
 use Rattle.builtins.specs.declared.Answer.{Answer}
 use Rattle.builtins.specs.Fold.{refused, foldOf}
-use Rattle.texts.specs.Text.{sameBytes}
+use Rattle.buffers.specs.Text.{sameBytes}
 use Rattle.spelling.specs.Types.{kindOf}
 use Rattle.spelling.specs.Read.{readValue}
 use Rattle.spelling.specs.Write.{textOf}
 use Rattle.lines.specs.declared.LineAnswer.{LineAnswer}
 use Rattle.lines.specs.Fields.{tab, fieldAt, argumentCount}
-use Rattle.lines.specs.Names.{nameOf, builtinOf}
+use Rattle.names.specs.Names.{nameOf, builtinOf}
 
 -- ---- the call that a line spells: a misspelled or missing value is the empty one there, and so refused in 3's place
 

@@ -1,16 +1,26 @@
-// A line's fields, taken off one after another.
+// A line's fields.
 ghost use mathlib.Core.Path.{_≡_};
 ghost use Prim.Native.Nat.{_+_, _≤_};
 ghost use mathlib.Core.Bool.{cond};
 ghost use lib.ListN.{drop};
 ghost use Rattle.lines.specs.Fields.{fieldAt, argumentCount};
 
-// The first field of what is left of a line: the part before its first tab.
-pub fn field(t: &[u8]) -> &[u8]
-    ensures { λ r. ⌜ now r ≡ fieldAt (now (t .entry)) 0 ⌝ }
+// The k-th field of a line, counted from 0: the part between its tabs, and the empty part where it is missing.
+pub fn field(line: &[u8], k: usize) -> &[u8]
+    ensures { λ r. ⌜ now r ≡ fieldAt (now (line .entry)) k ⌝ }
 {
-    let n = texts::find(t, b'\t');
-    &t[0..n]
+    let mut at: usize = 0;
+    let mut left = k;
+    while left > 0 {
+        let n = buffers::find(&line[at..], b'\t');
+        if n == line.len() - at {
+            return &line[0..0];
+        }
+        at += n + 1;
+        left -= 1;
+    }
+    let end = at + buffers::find(&line[at..], b'\t');
+    &line[at..end]
 }
 
 // What follows a first field of n bytes and its tab: the empty part where there is no tab.

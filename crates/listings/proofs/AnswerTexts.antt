@@ -12,9 +12,9 @@ use borrow.Author.Tests.{ne-eqb, le-leb, leb-true}
 use Rattle.values.specs.Value.{every, emptyValue, wellFormed}
 use Rattle.values.specs.declared.Value.{Value}
 use Rattle.values.proofs.Bools.{both, every-both}
-use Rattle.texts.specs.Text.{placeOf, bytes, sameBytes}
-use Rattle.texts.proofs.FirstPlace.{place-le, place-past, place-after, without}
-use Rattle.texts.proofs.Lookup.{same-false}
+use Rattle.buffers.specs.Text.{placeOf, bytes, sameBytes}
+use Rattle.buffers.proofs.FirstPlace.{place-le, place-past, place-after, without}
+use Rattle.buffers.proofs.Lookup.{same-false}
 use Rattle.spelling.specs.Read.{readValue, found, wrong}
 use Rattle.spelling.specs.Write.{textOf}
 use Rattle.spelling.proofs.ReadsBack.{read-back}

@@ -21,13 +21,13 @@ use Rattle.builtins.specs.declared.Answer.{Answer}
 use Rattle.builtins.specs.Fold.{refused, foldOf}
 use Rattle.formed.specs.Answers.{AnswerFormed, Held}
 use Rattle.formed.proofs.Answered.{answers-formed}
-use Rattle.texts.specs.Text.{bytes, sameBytes}
-use Rattle.texts.proofs.FirstPlace.{without, place-after}
+use Rattle.buffers.specs.Text.{bytes, sameBytes}
+use Rattle.buffers.proofs.FirstPlace.{without, place-after}
 use Rattle.spelling.specs.Write.{textOf}
 use Rattle.spelling.proofs.WrittenSo.{read-lanes}
 use Rattle.spelling.proofs.TextBytes.{text-without}
 use Rattle.lines.specs.Fields.{tab, fieldAt, argumentCount}
-use Rattle.lines.specs.Names.{nameOf, builtinOf}
+use Rattle.names.specs.Names.{nameOf, builtinOf}
 use Rattle.lines.specs.Line.{plainCall, castCall, callOf, mostBytes, lineOf, refusalOf, secondText, answerOf}
 use Rattle.stream.specs.Lines.{lines}
 use Rattle.stream.specs.Printed.{places, digits, refusedText, answerText, answerLine, answerLines, printed}

@@ -8,13 +8,13 @@ use Rattle.values.specs.Value.{every, shaped, sameKind, emptyValue}
 use Rattle.values.specs.declared.Scalar.the-variants.{I32}
 use Rattle.values.specs.declared.Kind.{Kind}
 use Rattle.values.specs.declared.Value.{Value}
-use Rattle.calls.specs.declared.Taken.the-variants.{Floats}
+use Rattle.calls.specs.Table.{Floats}
 use Rattle.calls.specs.Table.{taken}
 use Rattle.spelling.specs.declared.Fault.{Fault}
 use Rattle.spelling.specs.declared.Fault.the-variants.{Nothing, TypeSpelling, Lanes, Digit}
 use Rattle.spelling.specs.declared.Reading.{Reading}
 use Rattle.spelling.specs.Read.{readValue}
-use Rattle.texts.specs.Text.{byte, bytes, sameBytes}
+use Rattle.buffers.specs.Text.{byte, bytes, sameBytes}
 use Rattle.lines.specs.Fields.{fields}
 use Rattle.listings.specs.declared.Answered.{Answered}
 

@@ -117,7 +117,7 @@ fn is_faultless(f: Fault) -> bool
 fn read_lone(v: &[u8]) -> Answered
     ensures { λ r. ⌜ r ≡ loneLine (readValue (now (v .entry))) ⌝ }
 {
-    let a = spelling::read_value(v);
+    let a = reading::read_value(v);
     let f = a.fault;
     let x = a.value;
     if is_faultless(f) {
@@ -130,8 +130,8 @@ fn read_lone(v: &[u8]) -> Answered
 fn read_pair(v: &[u8], w: &[u8]) -> Answered
     ensures { λ r. ⌜ r ≡ pairLine (readValue (now (v .entry))) (readValue (now (w .entry))) ⌝ }
 {
-    let a = spelling::read_value(v);
-    let b = spelling::read_value(w);
+    let a = reading::read_value(v);
+    let b = reading::read_value(w);
     let f = a.fault;
     let g = b.fault;
     let x = a.value;
@@ -148,7 +148,7 @@ fn read_pair(v: &[u8], w: &[u8]) -> Answered
 fn says_refused(s: &[u8]) -> bool
     ensures { λ r. ⌜ r ≡ saysRefused (now (s .entry)) ⌝ }
 {
-    texts::same(s, b"refused")
+    buffers::same(s, b"refused")
 }
 
 fn read_two(v: &[u8], w: &[u8]) -> Answered
@@ -171,7 +171,7 @@ fn read_three(v: &[u8], n: &[u8], p: &[u8]) -> Answered
 fn read_third(v: &[u8], n: &[u8], t: &[u8]) -> Answered
     ensures { λ r. ⌜ r ≡ ofFields (now (v .entry) ∷ now (n .entry) ∷ fields (now (t .entry))) ⌝ }
 {
-    if texts::find(t, b'\t') < t.len() {
+    if buffers::find(t, b'\t') < t.len() {
         no_answer()
     } else {
         read_three(v, n, t)
@@ -182,7 +182,7 @@ fn read_third(v: &[u8], n: &[u8], t: &[u8]) -> Answered
 fn read_second(v: &[u8], t: &[u8]) -> Answered
     ensures { λ r. ⌜ r ≡ ofFields (now (v .entry) ∷ fields (now (t .entry))) ⌝ }
 {
-    let n = texts::find(t, b'\t');
+    let n = buffers::find(t, b'\t');
     if n < t.len() {
         read_third(v, &t[0..n], &t[n + 1..])
     } else {
@@ -194,7 +194,7 @@ fn read_second(v: &[u8], t: &[u8]) -> Answered
 pub fn read_answer(line: &[u8]) -> Answered
     ensures { λ r. ⌜ r ≡ readAnswer (now (line .entry)) ⌝ }
 {
-    let n = texts::find(line, b'\t');
+    let n = buffers::find(line, b'\t');
     if n < line.len() {
         read_second(&line[0..n], &line[n + 1..])
     } else {
@@ -216,7 +216,7 @@ pub fn line_at(listing: &[u8], at: usize) -> &[u8]
     ensures { λ r. ⌜ now r ≡ lineAt (now (listing .entry)) at ⌝ }
 {
     let t = rest(listing, at);
-    let n = texts::find(t, b'\n');
+    let n = buffers::find(t, b'\n');
     &t[0..n]
 }
 
@@ -225,7 +225,7 @@ pub fn next_at(listing: &[u8], at: usize) -> usize
     ensures { λ r. ⌜ r ≡ nextAt (now (listing .entry)) at ⌝ }
 {
     let t = rest(listing, at);
-    let n = texts::find(t, b'\n');
+    let n = buffers::find(t, b'\n');
     if n < t.len() {
         at + n + 1
     } else {

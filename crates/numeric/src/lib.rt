@@ -1,17 +1,14 @@
 // Lanes of the numeric builtins, over 32 bits: i32, u32 and f32 lanes as their bits, f16 lanes in the low 16.
-pub mod order;
-pub mod vectors;
-
 use values::Scalar;
 ghost use mathlib.Core.Path.{_≡_};
 ghost use mathlib.Core.Bool.{cond};
 ghost use Prim.Native.Nat.{_+_, _%_, _^_, _<_};
 ghost use lib.Dec.{leb, ltb, eqb};
 ghost use Rattle.half.specs.Format.{f16, f32};
-ghost use Rattle.values.specs.Four.{four};
+ghost use Rattle.values.specs.Program.{four};
 ghost use Rattle.numeric.specs.Numeric.{absLane, signFloat, signLane, leadingLane, onesLane, trailingLane};
 
-fn choose(on: bool, a: u32, b: u32) -> u32
+pub fn choose(on: bool, a: u32, b: u32) -> u32
     ensures { λ r. ⌜ r ≡ cond on a b ⌝ }
 {
     if on { a } else { b }

@@ -1,14 +1,13 @@
 // The lanes of packed words. A format is the width of its lanes, 8 or 16, and a coding: how a lane becomes a code of that width, and a code a lane.
-use values::Scalar;
 ghost use mathlib.Core.Path.{_≡_};
 ghost use mathlib.Core.List.{[], _∷_, _++_, map};
 ghost use Prim.Native.Nat.{_%_, _^_, _<_};
 ghost use lib.ListN.{take, getD};
 ghost use lib.Bits.{bitOr};
-ghost use Rattle.values.specs.Four.{four};
+ghost use Rattle.values.specs.Program.{four};
 ghost use Rattle.numeric.specs.Parts.{parts, joined};
 ghost use Rattle.packing.specs.Lanes.{extended, fillingFrom};
-ghost use Rattle.packing.specs.Codings.{scalar8Of, code8Of, lane8Of, code16Of, lane16Of};
+ghost use Rattle.packing.specs.Program.{code8Of, lane8Of, code16Of, lane16Of};
 
 pub enum Coding8 {
     Snorm,
@@ -94,17 +93,6 @@ fn lane16(t: Coding16, c: u16) -> u32
         Coding16::Snorm => norm::unpack_snorm16(c),
         Coding16::Unorm => norm::unpack_unorm16(c),
         Coding16::Float => half::f16_to_f32(c),
-    }
-}
-
-pub fn scalar8(t: Coding8) -> Scalar
-    ensures { λ r. ⌜ r ≡ scalar8Of t ⌝ }
-{
-    match t {
-        Coding8::Snorm => Scalar::F32,
-        Coding8::Unorm => Scalar::F32,
-        Coding8::Signed => Scalar::I32,
-        Coding8::Unsigned => Scalar::U32,
     }
 }
 

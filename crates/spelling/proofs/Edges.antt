@@ -5,7 +5,7 @@ use mathlib.Core.Bool.{Bool, true, _&&_}
 use mathlib.Core.List.{List, [], _∷_}
 use mathlib.Core.Path.{_≡_, refl}
 use lib.Dec.{eqb}
-use Rattle.texts.specs.Text.{firstSpelled, bytes, sameBytes, placeOf}
+use Rattle.buffers.specs.Text.{firstSpelled, bytes, sameBytes, placeOf}
 use Rattle.values.specs.Value.{emptyValue, value}
 use Rattle.spelling.specs.Types.{kindOf}
 use Rattle.spelling.specs.declared.Reading.{Reading}

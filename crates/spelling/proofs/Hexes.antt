@@ -3,7 +3,7 @@ use Prim.Native.Nat.{ℕ, zero, suc, _+_, _*_, _-_, _/_, _%_, _<_, _^_}
 use mathlib.Core.List.{[], _∷_}
 use mathlib.Core.Bool.{Bool, true, false, cond}
 use mathlib.Core.Path.{_≡_, refl, _∙_}
-use native.Mathlib.Nat.{mul-add-mod-self-right, mod-eq-of-lt, mul-add-div-right, div-eq-of-lt, add-zero, pow-suc, pow-succ', div-div-eq-div-mul, div-add-mod', div-one, pow-zero}
+use native.Mathlib.Nat.{mul-add-mod-self-right, mod-eq-of-lt, mul-add-div-right, div-eq-of-lt, add-zero, pow-suc, pow-succ', div-div-eq-div-mul, div-add-mod', div-one, pow-zero, pow-le-pow-right}
 use native.Mathlib.Omega.{arith}
 use lib.Dec.{ltb, leb}
 use borrow.Author.Tests.{lt-ltb, le-ltb, ltb-true, ltb-false, le-leb, lt-leb, leb-true}
@@ -68,3 +68,6 @@ digit-high v q h = rw (mul-add-div-right {m = 16} (omega arith) v q, div-eq-of-l
 
 pub div-suc : (d x : ℕ) → x / 16 ^ suc d ≡ x / 16 ^ d / 16
 div-suc d x = rw (pow-suc, ← div-div-eq-div-mul x (16 ^ d) 16)
+
+pub one-at-least : (i : ℕ) → 0 < 16 ^ i
+one-at-least i = pow-le-pow-right {n = 16} (omega arith) {i = 0} {j = i} (omega arith)

@@ -1,13 +1,9 @@
-pub mod Digits
 pub mod Edges
-pub mod Guesses
 pub mod Hexes
-pub mod LanePuts
-pub mod Numbers
 pub mod ReadsBack
-pub mod Scan
 pub mod Spellings
 pub mod Tested
 pub mod TextBytes
 pub mod Texts
 pub mod WrittenSo
+pub mod FaultPlaces

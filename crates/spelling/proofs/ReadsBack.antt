@@ -1,5 +1,5 @@
 -- What is written is read back: `readValue (textOf v)` gives v, for every well-formed v. Digit by digit, then lane by lane; the type is found because no type's spelling has a colon. Assumes nothing.
-use Prim.Native.Nat.{ℕ, zero, suc, _+_, _-_, _/_, _%_, _<_, _^_}
+use Prim.Native.Nat.{ℕ, zero, suc, _+_, _*_, _-_, _/_, _%_, _<_, _^_}
 use mathlib.Core.List.{List, [], _∷_, _++_}
 use mathlib.Core.Bool.{true}
 use mathlib.Core.Path.{_≡_, refl, ap, sym, _∙_}
@@ -14,23 +14,29 @@ use Rattle.values.specs.declared.Value.{Value}
 use Rattle.values.specs.declared.Scalar.{Scalar}
 use Rattle.values.specs.declared.Scalar.the-variants.{Boolean, I32, U32, F32, F16}
 use Rattle.values.specs.declared.Kind.{Kind}
-use Rattle.texts.specs.Text.{byte}
+use Rattle.buffers.specs.Text.{byte}
 use Rattle.spelling.specs.Types.{spelled, kindOf}
 use Rattle.values.proofs.Bools.{both}
 use Rattle.values.proofs.Places.{each, lanes-at-most-16, typed}
 use Rattle.values.proofs.Formed.{is-type, used-below, whole}
 use Rattle.spelling.proofs.Spellings.{kind-spelled}
-use Rattle.spelling.specs.Hex.{digitCount, digitBound, hexByte, hexBytes}
+use Rattle.spelling.specs.Hex.{digitCount, digitBound, digitOf, hexByte, hexBytes}
 use Rattle.spelling.specs.Read.{good, before, lanesAt, found, reading, colonAt, readLanes, readValue}
 use Rattle.spelling.specs.Write.{lanesText, textOf}
-use Rattle.texts.proofs.FirstPlace.{without, place-after}
-use Rattle.spelling.proofs.Scan.{digit-step}
+use Rattle.buffers.proofs.FirstPlace.{without, place-after}
 use Rattle.spelling.proofs.Hexes.{digit-byte, no-digits, hex-front, hex-none, digit-more}
 
 -- a lane that w digits below b spell
 pub record Fit (b w x : ℕ) : Type 0 where
   pub small : x < 16 ^ w
   pub digits : (j : ℕ) → x / 16 ^ j % 16 < b
+
+-- a right digit
+pub digit-step : (b w n d p u c q : ℕ) (t : List ℕ) → digitOf c ≡ q → q < b → lanesAt b w n (suc d) p u (c ∷ t) ≡ lanesAt b w n d (p + 1) (u * 16 + q) t
+unfolding lanesAt
+digit-step b w n d p u c q t e h =
+    let z : suc d - 1 ≡ d = omega arith in
+    rw (eqb·suc-zero d, e, lt-ltb q b h, z)
 
 -- the digits of a lane are read
 digits-back : (b w n d p v : ℕ) (r : List ℕ) → ((j : ℕ) → v / 16 ^ j % 16 < b)
@@ -79,7 +85,7 @@ fit U32 x h = record { small = omega arith; digits = λ j. mod-lt (x / 16 ^ j) (
 fit F32 x h = record { small = omega arith; digits = λ j. mod-lt (x / 16 ^ j) (omega arith) }
 fit F16 x h = record { small = omega arith; digits = λ j. mod-lt (x / 16 ^ j) (omega arith) }
 
-fits : (s : Scalar) (l : List ℕ) → every (λ x. ltb x (2 ^ laneBits s)) l ≡ true → Fits (digitBound s) (digitCount s) l
+pub fits : (s : Scalar) (l : List ℕ) → every (λ x. ltb x (2 ^ laneBits s)) l ≡ true → Fits (digitBound s) (digitCount s) l
 fits s [] e = none
 fits s (x ∷ xs) e =
     let h = both (ltb x (2 ^ laneBits s)) (every (λ y. ltb y (2 ^ laneBits s)) xs) e in

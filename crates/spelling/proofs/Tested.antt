@@ -1,31 +1,13 @@
--- What a test says of every number below a bound, where it is computed for all of them at once. Assumes nothing.
-use Prim.Native.Nat.{ℕ, zero, suc, _<_, _≤_}
-use mathlib.Core.Bool.{Bool, true, false, _&&_}
+-- A table is right by one test of all its entries. Assumes nothing.
+use Prim.Native.Nat.{ℕ}
+use mathlib.Core.Bool.{true}
 use mathlib.Core.List.{List}
-use mathlib.Core.Path.{_≡_, refl, ap, _∙_}
-use native.Mathlib.Omega.{arith}
-use borrow.Author.Tests.{eqb-true, ltb-true, ltb-false}
-use lib.Dec.{eqb, ltb}
+use mathlib.Core.Path.{_≡_}
+use borrow.Author.Tests.{eqb-true}
+use lib.Dec.{eqb}
 use lib.ListN.{getD}
-use Rattle.values.proofs.Bools.{both}
+use Rattle.values.proofs.Tested.{below, below-at}
 use Rattle.spelling.specs.Hex.{Table}
-
--- whether p holds of each number below n
-unfoldable pub below : (ℕ → Bool) → ℕ → Bool
-below p zero = true
-below p (suc n) = p n && below p n
-
-pub below-at : (p : ℕ → Bool) (n i : ℕ) → below p n ≡ true → i < n → p i ≡ true
-unfolding below
-below-at p zero i e h = absurd (omega arith)
-below-at p (suc n) i e h = by (ltb i n) refl (both (p n) (below p n) e .0) (below-at p n i (both (p n) (below p n) e .1))
-  where
-    last : (n ≤ i) → i ≡ n
-    last g = omega arith
-
-    by : (t : Bool) → ltb i n ≡ t → p n ≡ true → (i < n → p i ≡ true) → p i ≡ true
-    by true e a earlier = earlier (ltb-true i n e)
-    by false e a earlier = ap p (last (ltb-false i n e)) ∙ a
 
 -- a table, by one test of all its entries
 pub tested : (f : ℕ → ℕ) (n : ℕ) (t : List ℕ) → below (λ x. eqb (getD t x 0) (f x)) n ≡ true → Table f n t

@@ -10,7 +10,7 @@ use Rattle.values.specs.declared.Value.{Value}
 use Rattle.values.specs.Value.{scalarOf, every}
 use Rattle.values.proofs.Bools.{both, every-both}
 use Rattle.values.proofs.Places.{each}
-use Rattle.texts.proofs.FirstPlace.{without}
+use Rattle.buffers.proofs.FirstPlace.{without}
 use Rattle.spelling.specs.Types.{spelled}
 use Rattle.spelling.specs.Hex.{digitCount, hexBytes}
 use Rattle.spelling.specs.Write.{lanesText, textOf}

@@ -21,7 +21,7 @@ unfolding hexBytes
 length-hex zero v = refl
 length-hex (suc n) v = length-append (hexBytes n (v / 16)) _ ∙ omega (arith, length-hex n (v / 16))
 
-pub length-lanes : (b w : ℕ) (l : List ℕ) → length (lanesText b w l) ≡ length l * (w + 1)
+length-lanes : (b w : ℕ) (l : List ℕ) → length (lanesText b w l) ≡ length l * (w + 1)
 unfolding lanesText
 length-lanes b w [] = sym (zero-mul (w + 1))
 length-lanes b w (v ∷ vs) = rw (length-append, length-hex, length-lanes 44 w vs, suc-mul) (omega arith)
@@ -36,7 +36,7 @@ module _ (v : Value) {n w : ℕ} {s : Scalar} (en : n ≡ laneCount (v .kind)) (
   text-length = ap length text-parts ∙ length-append (spelled (v .kind)) (lanesText 58 w (take n (v .lanes)))
 
 -- by its type alone
-pub text-by-type : (v : Value) → laneCount (v .kind) ≤ length (v .lanes) → length (textOf v) ≡ textLength (v .kind)
+text-by-type : (v : Value) → laneCount (v .kind) ≤ length (v .lanes) → length (textOf v) ≡ textLength (v .kind)
 unfolding textLength
 text-by-type v h =
     text-length v refl refl refl
@@ -46,7 +46,7 @@ text-by-type v h =
 pub text-16 : (v : Value) → length (v .lanes) ≡ 16 → length (textOf v) ≡ textLength (v .kind)
 text-16 v e = text-by-type v (omega (arith, lanes-at-most-16 (v .kind)))
 
-at-most-8 : (s : Scalar) → digitCount s ≤ 8
+pub at-most-8 : (s : Scalar) → digitCount s ≤ 8
 at-most-8 Boolean = omega arith
 at-most-8 I32 = omega arith
 at-most-8 U32 = omega arith

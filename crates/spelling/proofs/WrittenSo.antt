@@ -10,7 +10,7 @@ use lib.Seq.{take-at}
 use lib.Dec.{ltb, eqb, eqb·suc-zero}
 use borrow.Author.Tests.{lt-ltb, ltb-true, ltb-false, eqb-true, eqb-false}
 use Rattle.values.specs.Value.{laneBits, laneCount, scalarOf, value, emptyValue, every, wellFormed}
-use Rattle.texts.specs.Text.{byte}
+use Rattle.buffers.specs.Text.{byte}
 use Rattle.spelling.specs.Hex.{digitCount, digitBound, digitOf, hexBytes}
 use Rattle.values.specs.declared.Scalar.{Scalar}
 use Rattle.values.specs.declared.Scalar.the-variants.{Boolean, I32, U32, F32, F16}
@@ -25,9 +25,8 @@ use Rattle.spelling.specs.declared.Fault.the-variants.{Nothing, TypeSpel
 use Rattle.spelling.specs.declared.Reading.{Reading}
 use Rattle.spelling.specs.Read.{faultNumber, Scanned, digitAt, countAt, good, before, lanesAt, wrong, found, reading, colonAt, readLanes, readValue}
 use Rattle.spelling.specs.Write.{lanesText, textOf}
-use Rattle.texts.proofs.FirstPlace.{place-split}
-use Rattle.spelling.proofs.Hexes.{byte-digit, no-digits, hex-front, hex-none, digit-low, digit-high, div-suc}
-use Rattle.spelling.proofs.Scan.{one-at-least}
+use Rattle.buffers.proofs.FirstPlace.{place-split}
+use Rattle.spelling.proofs.Hexes.{byte-digit, no-digits, hex-front, hex-none, digit-low, digit-high, div-suc, one-at-least}
 use Rattle.spelling.proofs.ReadsBack.{Fit, Fits, none, more}
 
 -- s spells lanes l, where d digits of the first are left and v is the number of those before them

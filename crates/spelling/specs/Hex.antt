@@ -8,7 +8,7 @@ use lib.ListN.{getD}
 use Rattle.values.specs.Value.{every}
 use Rattle.values.specs.declared.Scalar.{Scalar}
 use Rattle.values.specs.declared.Scalar.the-variants.{Boolean, I32, U32, F32, F16}
-use Rattle.texts.specs.Text.{byte}
+use Rattle.buffers.specs.Text.{byte}
 
 abbrev pub digitCount : Scalar → ℕ
 digitCount Boolean = 1

@@ -10,7 +10,7 @@ use Rattle.values.specs.declared.Kind.{Kind}
 use Rattle.spelling.specs.declared.Fault.{Fault}
 use Rattle.spelling.specs.declared.Fault.the-variants.{Nothing, TypeSpelling, Lanes, Digit}
 use Rattle.spelling.specs.declared.Reading.{Reading}
-use Rattle.texts.specs.Text.{byte, placeOf}
+use Rattle.buffers.specs.Text.{byte, placeOf}
 use Rattle.spelling.specs.Types.{kindOf}
 use Rattle.spelling.specs.Hex.{digitCount, digitBound, digitOf}
 

@@ -1,7 +1,6 @@
 -- How types are spelled, and which type a spelling spells: 01, "Lines": "Types are spelled as in the text without spaces (`mat2x3<f32>`)." Definitions only.
-use Prim.Native.Nat.{ℕ, _-_}
+use Prim.Native.Nat.{ℕ}
 use mathlib.Core.List.{List, [], _∷_, _++_}
-use lib.ListN.{length, replicate}
 use Rattle.values.specs.Value.{ofWidth, kinds}
 use Rattle.values.specs.declared.Scalar.{Scalar}
 use Rattle.values.specs.declared.Scalar.the-variants.{Boolean, I32, U32, F32, F16}
@@ -9,8 +8,7 @@ use Rattle.values.specs.declared.Size.{Size}
 use Rattle.values.specs.declared.Size.the-variants.{Two, Three, Four}
 use Rattle.values.specs.declared.Kind.{Kind}
 use Rattle.values.specs.declared.Kind.the-variants.{Empty, One, Vec, Mat}
-use Rattle.spelling.specs.declared.Spelling.{Spelling}
-use Rattle.texts.specs.Text.{byte, bytes, firstSpelled}
+use Rattle.buffers.specs.Text.{byte, bytes, firstSpelled}
 
 abbrev pub scalarText : Scalar → List ℕ
 scalarText Boolean = bytes "bool"
@@ -37,7 +35,3 @@ spelled (Mat c r w) = bytes "mat" ++ sizeText c ++ bytes "x" ++ sizeText r ++ by
 -- the type that a spelling spells, Empty where it spells none
 unfoldable pub kindOf : List ℕ → Kind
 kindOf s = firstSpelled spelled Empty kinds s
-
--- a spelling as the code hands it out: its length, and its bytes with zeros after them
-unfoldable pub spelling : List ℕ → Spelling
-spelling s = record { len = length s; bytes = s ++ replicate (12 - length s) 0 }

@@ -5,7 +5,7 @@ use lib.ListN.{length}
 use Rattle.values.specs.Value.{laneCount, scalarOf, lanesOf}
 use Rattle.values.specs.declared.Kind.{Kind}
 use Rattle.values.specs.declared.Value.{Value}
-use Rattle.texts.specs.Text.{byte}
+use Rattle.buffers.specs.Text.{byte}
 use Rattle.spelling.specs.Types.{spelled}
 use Rattle.spelling.specs.Hex.{digitCount, hexBytes}
 

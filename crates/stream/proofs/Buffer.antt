@@ -9,7 +9,7 @@ use lib.ListN.{length, take, drop, getD, set, length-take, length-drop, drop-of-
 use lib.Seq.{getD-append-add, getD-drop, getD-take, take-length, length-take-le, take-all, take-add, take-at, drop-at, drop-append-le, take-append-seam}
 use lib.Dec.{ltb}
 use borrow.Author.Tests.{ltb-true, ltb-false}
-use Rattle.texts.specs.Memory.{put}
+use Rattle.buffers.specs.Memory.{put}
 use Rattle.stream.specs.Stream.{heldOf}
 use Rattle.stream.proofs.Puts.{copy-step}
 

@@ -6,7 +6,7 @@ use mathlib.Core.Path.{_≡_, refl, ap}
 use native.Mathlib.Omega.{arith}
 use lib.ListN.{length, take, drop}
 use lib.Dec.{eqb}
-use Rattle.texts.specs.Text.{placeOf}
+use Rattle.buffers.specs.Text.{placeOf}
 use Rattle.stream.specs.Lines.{newlineAt, lines, afterNewline, onFirst}
 
 module _ (rest : List ℕ) where

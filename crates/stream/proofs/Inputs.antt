@@ -8,8 +8,8 @@ use native.Mathlib.Omega.{arith}
 use lib.Dec.{eqb}
 use lib.ListN.{length, length-append}
 use borrow.Author.Tests.{eqb-true, eqb-false}
-use Rattle.texts.specs.Memory.{put}
-use Rattle.texts.proofs.Puts.{put-length}
+use Rattle.buffers.specs.Memory.{put}
+use Rattle.buffers.proofs.Puts.{put-length}
 use Rattle.lines.specs.Line.{mostBytes}
 use Rattle.stream.specs.Printed.{printed}
 use Rattle.stream.specs.Stream.{heldOf, startOf, stepPart, stepOf, bufferOf, readOf, Loop}

@@ -9,13 +9,13 @@ use lib.ListN.{length, take, drop, length-append, length-drop}
 use lib.Seq.{drop-drop}
 use lib.Dec.{ltb, eqb}
 use borrow.Author.Tests.{ltb-true, le-ltb, eqb-true}
-use Rattle.texts.specs.Memory.{put}
+use Rattle.buffers.specs.Memory.{put}
 use Rattle.stream.specs.Stream.{lineRoom, ended, over, due, pieceText, pieceSize, pieceSkip, pieceOf, partText, partSize, partSkip}
 use Rattle.stream.specs.Printed.{answerLine}
 use Rattle.lines.specs.Line.{mostBytes}
 use Rattle.stream.specs.Lines.{newlineAt}
 use Rattle.stream.specs.declared.Part.{Part}
-use Rattle.texts.proofs.Puts.{put-put}
+use Rattle.buffers.proofs.Puts.{put-put}
 use Rattle.stream.proofs.Answers.{line-le}
 
 module _ (skip last : Bool) (s : List ℕ) where

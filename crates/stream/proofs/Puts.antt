@@ -7,8 +7,8 @@ use native.Mathlib.Numerals.{add-one}
 use native.Mathlib.Omega.{arith}
 use lib.ListN.{length, take, drop, set, getD, length-append, length-drop, drop-of-length-le}
 use lib.Seq.{drop-drop, length-take-le, append-snoc, drop-cons, lt-length-set, getD-set-same, drop-set-lt, take-set-le, take-suc, take-all}
-use Rattle.texts.specs.Memory.{put}
-use Rattle.texts.proofs.Puts.{put-length, put-put, put-set}
+use Rattle.buffers.specs.Memory.{put}
+use Rattle.buffers.proofs.Puts.{put-length, put-put, put-set}
 use Rattle.stream.specs.Printed.{digits}
 
 -- a write at the start of what stands from `at` on

@@ -10,8 +10,8 @@ use lib.Seq.{drop-drop, take-append-seam, drop-nil}
 use lib.Dec.{eqb}
 use borrow.Author.Tests.{eq-eqb, ne-eqb, eqb-true}
 use Rattle.lines.specs.Line.{mostBytes}
-use Rattle.texts.specs.Memory.{put}
-use Rattle.texts.proofs.Puts.{put-length}
+use Rattle.buffers.specs.Memory.{put}
+use Rattle.buffers.proofs.Puts.{put-length}
 use Rattle.stream.specs.Stream.{partOf, heldOf, stepPart, stepOf, bufferOf, textOf, stepLines, Run, writes}
 use Rattle.stream.specs.declared.Part.{Part}
 use Rattle.stream.specs.declared.Held.{Held}

@@ -8,8 +8,8 @@ use lib.ListN.{length, take, drop, length-append, length-drop}
 use lib.Seq.{drop-length, drop-drop, take-all}
 use lib.Dec.{ltb, eqb}
 use borrow.Author.Tests.{lt-ltb, ltb-true, ltb-false, eqb-true, eqb-false}
-use Rattle.texts.specs.Text.{placeOf}
-use Rattle.texts.proofs.FirstPlace.{place-le}
+use Rattle.buffers.specs.Text.{placeOf}
+use Rattle.buffers.proofs.FirstPlace.{place-le}
 use Rattle.stream.specs.Lines.{newlineAt, lines, afterNewline}
 use Rattle.builtins.specs.declared.Answer.{Answer}
 use Rattle.builtins.specs.Fold.{refused}

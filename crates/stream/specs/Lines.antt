@@ -3,7 +3,7 @@ use mathlib.Core.Bool.{cond}
 use Prim.Native.Nat.{ℕ}
 use mathlib.Core.List.{List, [], _∷_}
 use lib.Dec.{eqb}
-use Rattle.texts.specs.Text.{placeOf}
+use Rattle.buffers.specs.Text.{placeOf}
 
 -- a byte goes before the first line, and is one by itself where there is none
 unfoldable pub onFirst : ℕ → List (List ℕ) → List (List ℕ)

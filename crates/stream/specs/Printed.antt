@@ -3,7 +3,7 @@ use Prim.Native.Nat.{ℕ, zero, suc, _+_, _/_, _%_}
 use mathlib.Core.Bool.{Bool, cond}
 use mathlib.Core.List.{List, [], _∷_, _++_}
 use lib.Dec.{ltb, eqb}
-use Rattle.texts.specs.Text.{bytes}
+use Rattle.buffers.specs.Text.{bytes}
 use Rattle.lines.specs.Fields.{tab}
 use Rattle.lines.specs.Line.{refusalOf, answerOf}
 use Rattle.stream.specs.Lines.{lines, afterNewline}

@@ -6,7 +6,7 @@ ghost use mathlib.Core.Bool.{cond};
 ghost use Prim.Native.Nat.{_+_, _-_, _/_, _<_, _≤_, min};
 ghost use lib.Dec.{eqb};
 ghost use lib.ListN.{length};
-ghost use Rattle.texts.specs.Memory.{put};
+ghost use Rattle.buffers.specs.Memory.{put};
 ghost use Rattle.stream.specs.Stream.{lineRoom, linesIn, pieceText, pieceOf, partText, partOf, heldOf, startOf, stepOf, bufferOf, textOf, space, stepLines};
 ghost use Rattle.stream.specs.Printed.{digits, places, refusedText, answerLine};
 ghost use Rattle.lines.specs.Line.{writtenIn, lineAnswer};
@@ -99,7 +99,7 @@ pub fn put_refusal(out: &mut [u8], at: usize, refusal: u8) -> usize
     }
     let v = wide(refusal);
     let n = places_of(v);
-    let e = texts::put_bytes(out, at, b"refused\t");
+    let e = buffers::put_bytes(out, at, b"refused\t");
     put_digits(out, e, n, v)
 }
 
@@ -122,7 +122,7 @@ fn put_line(line: &[u8], out: &mut [u8], at: usize) -> usize
     put_byte(out, e, 10)
 }
 
-// The same where `due`, and nothing where not.
+// A line's answer and its newline at a place where they are `due`, and nothing where not; answers the next place.
 fn put_due(due: bool, line: &[u8], out: &mut [u8], at: usize) -> usize
     requires { ⌜ at + lineRoom ≤ length (now out) ⌝ }
     ensures { λ r. ⌜ (r ≡ at + length (cond due (answerLine (now (line .entry))) []))
@@ -144,7 +144,7 @@ fn fold_piece(s: &[u8], skip: bool, last: bool, out: &mut [u8], at: usize) -> Pa
         × (now (out .exit) ≡ put (now (out .entry)) at (pieceText skip last (now (s .entry)))) ⌝ }
 {
     let n = s.len();
-    let e = texts::find(s, b'\n');
+    let e = buffers::find(s, b'\n');
     let ended = e < n;
     let over = n > lines::MOST_BYTES;
     let due = !skip & (ended | over | (last & (n > 0)));

@@ -10,7 +10,7 @@ use borrow.Author.Tests.{lt-ltb}
 use lib.ListN.{length, take, getD, replicate}
 use lib.Seq.{take-nil}
 use Rattle.values.specs.Value.{laneCount, lanesOf, value, wellFormed, lanewise, lanewise2, lanewise3, zip2, zip3}
-use Rattle.values.specs.Four.{low, four, four2, four3, kept, isLanes}
+use Rattle.values.specs.Program.{low, four, four2, four3, kept, isLanes}
 use Rattle.values.specs.declared.Size.the-variants.{Two, Three, Four}
 use Rattle.values.specs.declared.Kind.{Kind}
 use Rattle.values.specs.declared.Kind.the-variants.{Empty, One, Vec, Mat}
@@ -133,3 +133,7 @@ kept-value k x h {n} en ea eb ec ed =
     (ap (λ (l : List ℕ). record { kind = k; lanes = l })
     (split4 (λ (y : List ℕ). length y ≡ 4 → kept 0 n y ∷ kept 1 n y ∷ kept 2 n y ∷ kept 3 n y ∷ replicate 12 0 ≡ take n y ++ replicate (16 - length (take n y)) 0)
     (keeps n) x (omega arith) h))
+
+-- four lanes are equal where each is
+pub same-four : {a a' b b' c c' d d' : ℕ} → a ≡ a' → b ≡ b' → c ≡ c' → d ≡ d' → a ∷ b ∷ c ∷ d ∷ [] ≡ a' ∷ b' ∷ c' ∷ d' ∷ []
+same-four p q r s = cc

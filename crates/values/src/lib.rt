@@ -1,11 +1,13 @@
 // The value record: a type, each of whose values is a type that is taken or none, beside 16 lanes of bits.
+mod parts;
+
 ghost use mathlib.Core.Path.{_≡_};
 ghost use mathlib.Core.Bool.{_&&_, cond};
-ghost use Prim.Native.Nat.{_+_, _*_, _^_, _≤_, _<_};
+ghost use Prim.Native.Nat.{_*_, _^_, _≤_};
 ghost use lib.Dec.{ltb, eqb};
-ghost use lib.ListN.{take, drop};
-ghost use Rattle.values.specs.Value.{sizeOf, ofWidth, scalarOf, laneBits, laneCount, isType, shaped, scalarPlace, sizePlace, widthPlace, place, kindAt, sameKind, value, emptyValue, every, wellFormed};
-ghost use Rattle.values.specs.Four.{low, four};
+ghost use lib.ListN.{length, take, drop, getD};
+ghost use Rattle.values.specs.Value.{sizeOf, ofWidth, scalarOf, laneBits, laneCount, isType, shaped, place, kindAt, sameKind, value, emptyValue, every, wellFormed};
+ghost use Rattle.values.specs.Program.{low, four};
 
 pub enum Scalar {
     Boolean,
@@ -41,7 +43,7 @@ pub struct Value {
 
 // ---- types
 
-pub fn size_of(s: Size) -> usize
+fn size_of(s: Size) -> usize
     ensures { λ r. ⌜ (r ≡ sizeOf s) × (r ≤ 4) ⌝ }
 {
     match s {
@@ -51,7 +53,7 @@ pub fn size_of(s: Size) -> usize
     }
 }
 
-pub fn of_width(w: Width) -> Scalar
+fn of_width(w: Width) -> Scalar
     ensures { λ r. ⌜ r ≡ ofWidth w ⌝ }
 {
     match w {
@@ -117,64 +119,15 @@ pub fn shaped_as(t: Scalar, k: Kind) -> Kind
     }
 }
 
-fn scalar_place(s: Scalar) -> u64
-    ensures { λ r. ⌜ (r ≡ scalarPlace s) × (r ≤ 4) ⌝ }
-{
-    match s {
-        Scalar::Boolean => 0,
-        Scalar::I32 => 1,
-        Scalar::U32 => 2,
-        Scalar::F32 => 3,
-        Scalar::F16 => 4,
-    }
-}
-
-fn size_place(s: Size) -> u64
-    ensures { λ r. ⌜ (r ≡ sizePlace s) × (r ≤ 2) ⌝ }
-{
-    match s {
-        Size::Two => 0,
-        Size::Three => 1,
-        Size::Four => 2,
-    }
-}
-
-fn width_place(w: Width) -> u64
-    ensures { λ r. ⌜ (r ≡ widthPlace w) × (r ≤ 1) ⌝ }
-{
-    match w {
-        Width::Single => 0,
-        Width::Half => 1,
-    }
-}
-
-fn one_place(s: Scalar) -> u64
-    ensures { λ r. ⌜ r ≡ 1 + scalarPlace s ⌝ }
-{
-    1 + scalar_place(s)
-}
-
-fn vec_place(n: Size, s: Scalar) -> u64
-    ensures { λ r. ⌜ r ≡ 6 + 5 * sizePlace n + scalarPlace s ⌝ }
-{
-    6 + 5 * size_place(n) + scalar_place(s)
-}
-
-fn mat_place(c: Size, r: Size, w: Width) -> u64
-    ensures { λ x. ⌜ x ≡ 21 + 9 * widthPlace w + 3 * sizePlace c + sizePlace r ⌝ }
-{
-    21 + 9 * width_place(w) + 3 * size_place(c) + size_place(r)
-}
-
 // A type's place in the list of them all.
 pub fn place_of(k: Kind) -> u64
     ensures { λ r. ⌜ r ≡ place k ⌝ }
 {
     match k {
         Kind::Empty => 0,
-        Kind::One(s) => one_place(s),
-        Kind::Vec(n, s) => vec_place(n, s),
-        Kind::Mat(c, r, w) => mat_place(c, r, w),
+        Kind::One(s) => parts::one_place(s),
+        Kind::Vec(n, s) => parts::vec_place(n, s),
+        Kind::Mat(c, r, w) => parts::mat_place(c, r, w),
     }
 }
 
@@ -182,66 +135,6 @@ pub fn same_kind(k: Kind, l: Kind) -> bool
     ensures { λ r. ⌜ r ≡ sameKind k l ⌝ }
 {
     place_of(k) == place_of(l)
-}
-
-fn scalar_at(n: u64) -> Scalar
-    requires { ⌜ n < 5 ⌝ }
-    ensures { λ r. ⌜ scalarPlace r ≡ n ⌝ }
-{
-    if n == 0 {
-        return Scalar::Boolean;
-    }
-    if n == 1 {
-        return Scalar::I32;
-    }
-    if n == 2 {
-        return Scalar::U32;
-    }
-    if n == 3 {
-        return Scalar::F32;
-    }
-    Scalar::F16
-}
-
-fn size_at(n: u64) -> Size
-    requires { ⌜ n < 3 ⌝ }
-    ensures { λ r. ⌜ sizePlace r ≡ n ⌝ }
-{
-    if n == 0 {
-        return Size::Two;
-    }
-    if n == 1 {
-        return Size::Three;
-    }
-    Size::Four
-}
-
-fn width_at(n: u64) -> Width
-    requires { ⌜ n < 2 ⌝ }
-    ensures { λ r. ⌜ widthPlace r ≡ n ⌝ }
-{
-    if n == 0 { Width::Single } else { Width::Half }
-}
-
-fn one_at(n: u64) -> Kind
-    requires { ⌜ n < 5 ⌝ }
-    ensures { λ r. ⌜ place r ≡ 1 + n ⌝ }
-{
-    Kind::One(scalar_at(n))
-}
-
-fn vec_at(n: u64) -> Kind
-    requires { ⌜ n < 15 ⌝ }
-    ensures { λ r. ⌜ place r ≡ 6 + n ⌝ }
-{
-    Kind::Vec(size_at(n / 5), scalar_at(n % 5))
-}
-
-fn mat_at(n: u64) -> Kind
-    requires { ⌜ n < 18 ⌝ }
-    ensures { λ r. ⌜ place r ≡ 21 + n ⌝ }
-{
-    Kind::Mat(size_at(n % 9 / 3), size_at(n % 3), width_at(n / 9))
 }
 
 // The type of a place.
@@ -252,13 +145,13 @@ pub fn kind_at(n: u64) -> Kind
         return Kind::Empty;
     }
     if n < 6 {
-        return one_at(n - 1);
+        return parts::one_at(n - 1);
     }
     if n < 21 {
-        return vec_at(n - 6);
+        return parts::vec_at(n - 6);
     }
     if n < 39 {
-        return mat_at(n - 21);
+        return parts::mat_at(n - 21);
     }
     Kind::Empty
 }
@@ -266,7 +159,7 @@ pub fn kind_at(n: u64) -> Kind
 // ---- the value check
 
 // The first number that a lane of this scalar cannot be.
-pub fn lane_bound(s: Scalar) -> u64
+fn lane_bound(s: Scalar) -> u64
     ensures { λ r. ⌜ r ≡ 2 ^ laneBits s ⌝ }
 {
     match s {
@@ -278,19 +171,51 @@ pub fn lane_bound(s: Scalar) -> u64
     }
 }
 
-pub fn limit_at(i: usize, n: usize, bound: u64) -> u64
+fn limit_at(i: usize, n: usize, bound: u64) -> u64
     ensures { λ r. ⌜ r ≡ cond (ltb i n) bound 1 ⌝ }
 {
     if i < n { bound } else { 1 }
 }
 
-// Whether the first n lanes are below the bound and the others 0.
-fn lanes_ok(lanes: [u64; 16], n: usize, bound: u64) -> bool
-    ensures { λ r. ⌜ r ≡ every (λ x. ltb x bound) (take n lanes) && every (λ x. eqb x 0) (drop n lanes) ⌝ }
+// Whether the first four lanes are below the bound where they are among the first n, and 0 where not.
+fn four_ok(l: &[u64], n: usize, bound: u64) -> bool
+    requires { ⌜ length (now l) ≡ 16 ⌝ }
+    ensures { λ r. ⌜ r ≡ ltb (getD (now (l .entry)) 0 0) (cond (ltb 0 n) bound 1) && ltb (getD (now (l .entry)) 1 0) (cond (ltb 1 n) bound 1)
+        && ltb (getD (now (l .entry)) 2 0) (cond (ltb 2 n) bound 1) && ltb (getD (now (l .entry)) 3 0) (cond (ltb 3 n) bound 1) ⌝ }
+{
+    (l[0] < limit_at(0, n, bound))
+        & (l[1] < limit_at(1, n, bound))
+        & (l[2] < limit_at(2, n, bound))
+        & (l[3] < limit_at(3, n, bound))
+}
+
+// Whether the lanes past the fourth are 0.
+fn none_past(l: &[u64]) -> bool
+    requires { ⌜ length (now l) ≡ 16 ⌝ }
+    ensures { λ r. ⌜ r ≡ every (λ x. eqb x 0) (drop 4 (now (l .entry))) ⌝ }
+{
+    (l[4] == 0)
+        & (l[5] == 0)
+        & (l[6] == 0)
+        & (l[7] == 0)
+        & (l[8] == 0)
+        & (l[9] == 0)
+        & (l[10] == 0)
+        & (l[11] == 0)
+        & (l[12] == 0)
+        & (l[13] == 0)
+        & (l[14] == 0)
+        & (l[15] == 0)
+}
+
+// Whether the first n of all 16 lanes are below the bound and the others 0, as a matrix has them.
+fn all_ok(l: &[u64], n: usize, bound: u64) -> bool
+    requires { ⌜ length (now l) ≡ 16 ⌝ }
+    ensures { λ r. ⌜ r ≡ every (λ x. ltb x bound) (take n (now (l .entry))) && every (λ x. eqb x 0) (drop n (now (l .entry))) ⌝ }
 {
     let mut i = 0;
     while i < 16 {
-        if limit_at(i, n, bound) <= lanes[i] {
+        if limit_at(i, n, bound) <= l[i] {
             return false;
         }
         i += 1;
@@ -298,12 +223,24 @@ fn lanes_ok(lanes: [u64; 16], n: usize, bound: u64) -> bool
     true
 }
 
+// Whether the first n of 16 lanes are below the bound and the others 0: of four or fewer without a branch.
+pub fn lanes_formed(l: &[u64], n: usize, bound: u64) -> bool
+    requires { ⌜ length (now l) ≡ 16 ⌝ }
+    ensures { λ r. ⌜ r ≡ every (λ x. ltb x bound) (take n (now (l .entry))) && every (λ x. eqb x 0) (drop n (now (l .entry))) ⌝ }
+{
+    if n <= 4 {
+        four_ok(l, n, bound) & none_past(l)
+    } else {
+        all_ok(l, n, bound)
+    }
+}
+
 pub fn well_formed(v: Value) -> bool
     ensures { λ r. ⌜ r ≡ wellFormed v ⌝ }
 {
     let k = v.kind;
     let l = v.lanes;
-    is_type(k) & lanes_ok(l, lane_count(k), lane_bound(scalar_of(k)))
+    is_type(k) & lanes_formed(&l, lane_count(k), lane_bound(scalar_of(k)))
 }
 
 pub fn empty() -> Value
@@ -323,49 +260,8 @@ pub fn cut_lane(x: u64) -> u32
     (x % 0x1_0000_0000) as u32
 }
 
-// The first four lanes, cut to 32 bits: of a well-formed value nothing is lost.
-pub fn cut(lanes: [u64; 16]) -> [u32; 4]
-    ensures { λ r. ⌜ r ≡ four low lanes ⌝ }
-{
-    [
-        cut_lane(lanes[0]),
-        cut_lane(lanes[1]),
-        cut_lane(lanes[2]),
-        cut_lane(lanes[3]),
-    ]
-}
-
 pub fn kept_lane(i: usize, n: usize, x: u32) -> u64
     ensures { λ r. ⌜ r ≡ cond (ltb i n) x 0 ⌝ }
 {
     if i < n { x as u64 } else { 0 }
-}
-
-// The value of a scalar or vector type whose lanes are the first of these.
-pub fn of_lanes(kind: Kind, x: [u32; 4]) -> Value
-    ensures { λ r. ⌜ r ≡ value kind (take (laneCount kind) x) ⌝ }
-{
-    let n = lane_count(kind);
-    let lanes = [
-        kept_lane(0, n, x[0]),
-        kept_lane(1, n, x[1]),
-        kept_lane(2, n, x[2]),
-        kept_lane(3, n, x[3]),
-        0,
-        0,
-        0,
-        0,
-        0,
-        0,
-        0,
-        0,
-        0,
-        0,
-        0,
-        0,
-    ];
-    Value {
-        kind: kind,
-        lanes: lanes,
-    }
 }

@@ -1,9 +1,4 @@
-pub mod Parts
-pub mod Given
-pub mod TakenByPlace
-pub mod Standing
-pub mod Facts
-pub mod RightLanes
-pub mod RightOthers
-pub mod Right
-pub mod Answered
+pub mod Tables
+pub mod Sets
+pub mod There
+pub mod Kept

@@ -1,28 +1,140 @@
-// Calls and answers as words of 64 bits: specs/Words says what stands where.
-pub mod long;
-pub mod short;
+// Values as words of 64 bits: specs/Words says what stands where. They are read, checked and put where they stand; a type is its place.
+pub mod types;
 
+use values::Value;
 ghost use mathlib.Core.Path.{_≡_};
-ghost use lib.ListN.{length};
-ghost use Rattle.texts.specs.Memory.{put};
-ghost use Rattle.words.specs.Words.{refusalIn, writtenIn};
+ghost use mathlib.Core.Bool.{cond};
+ghost use Prim.Native.Nat.{_+_, _≤_, _<_};
+ghost use lib.Dec.{ltb};
+ghost use lib.ListN.{length, take, drop, getD};
+ghost use Rattle.values.specs.Value.{laneCount, place, kindAt, value, wellFormed};
+ghost use Rattle.values.specs.Program.{low, four};
+ghost use Rattle.buffers.specs.Memory.{put};
+ghost use Rattle.words.specs.Words.{valueAt, wordsOf};
 
-// Folds a call of words into the words of its answer. Answers the refusal's number, 0 where there is none.
-pub fn fold(call: &[u64], out: &mut [u64]) -> u8
-    ensures { λ r. ⌜ (r ≡ refusalIn (length (now (out .entry))) (now (call .entry)))
-        × (now (out .exit) ≡ put (now (out .entry)) 0 (writtenIn (length (now (out .entry))) (now (call .entry)))) ⌝ }
+pub fn word(w: &[u64], i: usize) -> u64
+    ensures { λ r. ⌜ r ≡ getD (now (w .entry)) i 0 ⌝ }
 {
-    if short::fold(call, out) {
+    if i < w.len() { w[i] } else { 0 }
+}
+
+// The place of the type of the value that stands there.
+pub fn place_at(w: &[u64], at: usize) -> u64
+    requires { ⌜ at ≤ 37 ⌝ }
+    ensures { λ r. ⌜ (r ≡ place (valueAt (now (w .entry)) at .kind)) × (r < 39) ⌝ }
+{
+    if w.len() < at + 17 {
         return 0;
     }
-    let a = builtins::fold(long::call_of(call));
-    if a.refusal != 0 {
-        return a.refusal;
+    types::known(w[at])
+}
+
+// Whether the value that stands there is well formed.
+pub fn formed_at(w: &[u64], at: usize) -> bool
+    requires { ⌜ at ≤ 37 ⌝ }
+    ensures { λ r. ⌜ r ≡ wellFormed (valueAt (now (w .entry)) at) ⌝ }
+{
+    if w.len() < at + 17 {
+        return false;
     }
-    if out.len() < 34 {
-        return 8;
+    let p = types::known(w[at]);
+    (p != 0) & values::lanes_formed(&w[at + 1..at + 17], types::count_at(p), types::bound_at(p))
+}
+
+// The first four lanes of the value that stands there, cut to 32 bits: of a well-formed scalar or vector nothing is lost.
+pub fn cut_at(w: &[u64], at: usize) -> [u32; 4]
+    requires { ⌜ at ≤ 37 ⌝ }
+    ensures { λ r. ⌜ r ≡ four low (valueAt (now (w .entry)) at .lanes) ⌝ }
+{
+    if w.len() < at + 17 {
+        return [0; 4];
     }
-    long::put_value(out, 0, a.first);
-    long::put_value(out, 17, a.second);
-    0
+    [
+        values::cut_lane(w[at + 1]),
+        values::cut_lane(w[at + 2]),
+        values::cut_lane(w[at + 3]),
+        values::cut_lane(w[at + 4]),
+    ]
+}
+
+// ---- put
+
+fn lane_at(i: usize, n: usize, x: [u32; 4]) -> u64
+    ensures { λ r. ⌜ r ≡ cond (ltb i 4) (cond (ltb i n) (getD x i 0) 0) 0 ⌝ }
+{
+    if i < 4 {
+        values::kept_lane(i, n, x[i])
+    } else {
+        0
+    }
+}
+
+// The words of the scalar or vector of the type at p whose lanes are the first of these, from `at` on; of place 0, the empty value's.
+pub fn put_lanes(out: &mut [u64], at: usize, p: u64, x: [u32; 4])
+    requires { ⌜ (at + 17 ≤ length (now out)) × (p ≤ 20) ⌝ }
+    ensures { λ _. ⌜ now (out .exit) ≡ put (now (out .entry)) at (wordsOf (value (kindAt p) (take (laneCount (kindAt p)) x))) ⌝ }
+{
+    let n = types::count_at(p);
+    out[at] = p;
+    let mut i = 0;
+    while i < 16 {
+        out[at + 1 + i] = lane_at(i, n, x);
+        i += 1;
+    }
+}
+
+// ---- values by records
+
+// The 16 words after the one at `at`.
+fn sixteen(w: &[u64], at: usize) -> [u64; 16]
+    requires { ⌜ at + 17 ≤ length (now w) ⌝ }
+    ensures { λ r. ⌜ r ≡ take 16 (drop (at + 1) (now (w .entry))) ⌝ }
+{
+    [
+        w[at + 1],
+        w[at + 2],
+        w[at + 3],
+        w[at + 4],
+        w[at + 5],
+        w[at + 6],
+        w[at + 7],
+        w[at + 8],
+        w[at + 9],
+        w[at + 10],
+        w[at + 11],
+        w[at + 12],
+        w[at + 13],
+        w[at + 14],
+        w[at + 15],
+        w[at + 16],
+    ]
+}
+
+// The value whose words start at `at`.
+pub fn value_at(w: &[u64], at: usize) -> Value
+    requires { ⌜ at ≤ 37 ⌝ }
+    ensures { λ r. ⌜ r ≡ valueAt (now (w .entry)) at ⌝ }
+{
+    if w.len() < at + 17 {
+        return values::empty();
+    }
+    Value {
+        kind: values::kind_at(w[at]),
+        lanes: sixteen(w, at),
+    }
+}
+
+// A value's words from `at` on.
+pub fn put_value(out: &mut [u64], at: usize, v: Value)
+    requires { ⌜ at + 17 ≤ length (now out) ⌝ }
+    ensures { λ _. ⌜ now (out .exit) ≡ put (now (out .entry)) at (wordsOf v) ⌝ }
+{
+    let k = v.kind;
+    let l = v.lanes;
+    out[at] = values::place_of(k);
+    let mut i = 0;
+    while i < 16 {
+        out[at + 1 + i] = l[i];
+        i += 1;
+    }
 }

@@ -1,6 +1,6 @@
 -- Where nothing is refused, as many kinds are written as are counted; else nothing is. Assumes nothing.
 use lib.ListN.{length}
-use Rattle.texts.proofs.Puts.{put-nil}
+use Rattle.buffers.proofs.Puts.{put-nil}
 use Rattle.diffs.proofs.Refusals.{none-in, in-room, walked-in}
 use borrow.Author.Needs.{needs}
 use Rattle.diffs.proofs.compare_listings.Statement.{statement}

@@ -4,8 +4,8 @@ use mathlib.Core.Path.{_≡_, refl, sym, _∙_}
 use native.Mathlib.Omega.{arith}
 use borrow.Author.Needs.{needs}
 use lib.ListN.{length}
-use Rattle.texts.specs.Memory.{put}
-use Rattle.texts.proofs.Puts.{put-nil}
+use Rattle.buffers.specs.Memory.{put}
+use Rattle.buffers.proofs.Puts.{put-nil}
 use Rattle.diffs.specs.Places.{kindsFrom}
 use Rattle.diffs.proofs.Walk.{kind-more}
 use Rattle.diffs.proofs.put_kinds.Statement.{statement}

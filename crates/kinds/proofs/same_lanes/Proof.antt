@@ -5,7 +5,7 @@ use native.Mathlib.Omega.{arith}
 use borrow.Author.Count.{below-more}
 use borrow.Author.Needs.{needs}
 use lib.ListN.{getD}
-use Rattle.texts.proofs.Lookup.{same-itself, same-false}
+use Rattle.buffers.proofs.Lookup.{same-itself, same-false}
 use Rattle.kinds.specs.Kinds.{normalLane}
 use Rattle.kinds.proofs.Lanes.{lane-same, lanes-same}
 use Rattle.kinds.proofs.same_lanes.Statement.{statement}

@@ -1,11 +1,19 @@
 -- A line that is too long is refused by 7; else the words are those of its call, so that their answer is the line's. Assumes nothing.
 use Prim.Native.Nat.{ℕ, _<_, _≤_}
 use mathlib.Core.List.{List}
-use mathlib.Core.Path.{_≡_, ap, sym, _∙_}
+use mathlib.Core.Path.{_≡_, ap, sym}
+use native.Mathlib.Omega.{arith}
 use borrow.Author.Tests.{lt-ltb, le-ltb}
-use lib.ListN.{length}
+use lib.ListN.{length, replicate}
+use Rattle.buffers.specs.Memory.{put}
+use Rattle.calls.specs.Words as Called
+use Rattle.builtins.specs.declared.Answer.{Answer}
 use Rattle.builtins.specs.Fold.{refused, foldOf}
+use Rattle.builtins.specs.Words as Told
+use Rattle.formed.proofs.AnswerWords.{answer-words}
 use Rattle.lines.specs.Line.{callOf, lineOf}
+use Rattle.lines.specs.Program.{Answers}
+use Rattle.lines.proofs.Written.{refused-so}
 use borrow.Author.Needs.{needs}
 use Rattle.lines.proofs.fold_line.Statement.{statement}
 use Rattle.lines.proofs.fold_line.Tie as tie
@@ -18,19 +26,16 @@ not-long : (line : List ℕ) → length line ≤ 400 → lineOf line ≡ foldOf 
 unfolding lineOf
 not-long line h = rw (le-ltb 400 (length line) h)
 
-refused-requires : tie.Need-refused-requires
-refused-requires c κs = search needs
-
-put-answer-requires : tie.Need-put-answer-requires
-put-answer-requires c κs = search needs
-
-same-length : tie.Need-same-length
-same-length c = search needs
+-- the words of its call give its answer's
+answers : (line w o : List ℕ) {r : ℕ} {o′ : List ℕ} → length line ≤ 400 → Called.callOf w ≡ callOf line → 34 ≤ length o
+    → r ≡ Told.refusalIn (length o) w → o′ ≡ put o 0 (Told.writtenIn (length o) w) → Answers r o′ (lineOf line)
+answers line w o h e k er eo = rw (not-long line h, ← e) (answer-words w o k er eo)
 
 returns : tie.Need-returns
+unfolding refused
 returns c =
-    let line = c .before .before .before .before .before .before .before .before .args .line .now in
-    c .before .before .put-answer .ensures line (c .before .before .before .refused .ensures ∙ sym (too-long line (c .before .before .before .before .before .if1 .taken)))
+    let line = c .before .before .before .args .line .now in
+    refused-so (c .before .before .before .args .out .now) line (ap (λ (a : Answer). a .refusal) (sym (too-long line (omega arith)))) (λ z. omega arith)
 
 slice-aggregate-put-call : tie.Need-slice-aggregate-put-call
 slice-aggregate-put-call c = search needs
@@ -38,61 +43,41 @@ slice-aggregate-put-call c = search needs
 put-call-requires : tie.Need-put-call-requires
 put-call-requires c κs = search needs
 
-slice-aggregate-answer : tie.Need-slice-aggregate-answer
-slice-aggregate-answer c = search needs
+slice-aggregate-fold : tie.Need-slice-aggregate-fold
+slice-aggregate-fold c = search needs
 
-answer-requires : tie.Need-answer-requires
-answer-requires c κs = search needs
-
-put-short-requires : tie.Need-put-short-requires
-put-short-requires c κs = search needs
-
-slice-aggregate-call-of : tie.Need-slice-aggregate-call-of
-slice-aggregate-call-of c = search needs
-
-call-of-requires : tie.Need-call-of-requires
-call-of-requires c κs = search needs
+slice-aggregate-fold-2 : tie.Need-slice-aggregate-fold-2
+slice-aggregate-fold-2 c = search needs
 
 fold-requires : tie.Need-fold-requires
 fold-requires c κs = search needs
 
-put-answer-requires-2 : tie.Need-put-answer-requires-2
-put-answer-requires-2 c κs = search needs
+slice-aggregate-put-answer : tie.Need-slice-aggregate-put-answer
+slice-aggregate-put-answer c = search needs
 
-same-length-2 : tie.Need-same-length-2
-same-length-2 c = search needs
+put-answer-requires : tie.Need-put-answer-requires
+put-answer-requires c κs = search needs
+
+same-length : tie.Need-same-length
+same-length c = search needs
 
 returns-2 : tie.Need-returns-2
 returns-2 c =
-    let line = c .before .before .before .before .before .before .before .before .before .before .before .before .before .args .line .now in
-    c .before .before .put-short .ensures line (c .before .before .before .before .before .answer .ensures .0 (c .before .before .before .before .if2 .taken) ∙ ap foldOf (c .before .before .before .before .before .before .before .before .put-call .ensures) ∙ sym (not-long line (c .before .before .before .before .before .before .before .before .before .before .if1 .left)))
-
-same-length-3 : tie.Need-same-length-3
-same-length-3 c = search needs
-
-returns-3 : tie.Need-returns-3
-returns-3 c =
-    let line = c .before .before .before .before .before .before .before .before .before .before .before .before .before .before .before .before .args .line .now in
-    c .before .before .put-answer2 .ensures line (c .before .before .before .fold .ensures ∙ ap foldOf (c .before .before .before .before .call-of .ensures ∙ c .before .before .before .before .before .before .before .before .before .before .before .put-call .ensures) ∙ sym (not-long line (c .before .before .before .before .before .before .before .before .before .before .before .before .before .if1 .left)))
+    let line = c .before .before .before .before .before .before .before .before .before .before .before .before .before .before .before .args .line .now in
+    let f = c .before .before .before .before .before .before .fold in
+    c .before .before .put-answer .ensures line (answers line (c .before .before .before .before .before .before .before .before .before .before .put-call .last .0) (replicate 34 0) (omega arith) (c .before .before .before .before .before .before .before .before .before .before .put-call .ensures) (omega arith) (f .ensures .0) (f .ensures .1))
 
 pub fold-line-spec : {M : Type 1} → statement M
 fold-line-spec =
     tie.close
     (tie.spec
-    refused-requires
-    put-answer-requires
-    same-length
     returns
     slice-aggregate-put-call
     put-call-requires
-    slice-aggregate-answer
-    answer-requires
-    put-short-requires
-    slice-aggregate-call-of
-    call-of-requires
+    slice-aggregate-fold
+    slice-aggregate-fold-2
     fold-requires
-    put-answer-requires-2
-    same-length-2
-    returns-2
-    same-length-3
-    returns-3)
+    slice-aggregate-put-answer
+    put-answer-requires
+    same-length
+    returns-2)

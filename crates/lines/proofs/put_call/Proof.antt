@@ -4,11 +4,38 @@ use borrow.Author.Needs.{needs}
 use Rattle.lines.proofs.put_call.Statement.{statement}
 use Rattle.lines.proofs.put_call.Tie as tie
 
+digit-table-requires : tie.Need-digit-table-requires
+digit-table-requires c κs = search needs
+
+field-requires : tie.Need-field-requires
+field-requires c κs = search needs
+
+number-of-requires : tie.Need-number-of-requires
+number-of-requires c κs = search needs
+
+slice-aggregate-same : tie.Need-slice-aggregate-same
+slice-aggregate-same c = search needs
+
+same-requires : tie.Need-same-requires
+same-requires c κs = search needs
+
+put-cast-requires : tie.Need-put-cast-requires
+put-cast-requires c κs = search needs
+
+put-plain-requires : tie.Need-put-plain-requires
+put-plain-requires c κs = search needs
+
+same-length : tie.Need-same-length
+same-length c = search needs
+
 returns : tie.Need-returns
 unfolding callOf
 returns c =
     let s = c .before .before .before .before .before .before in
     rw (← s .before .before .before .field .ensures, ← s .same .ensures, c .before .before .before .before .before .if1 .taken, ← s .before .before .number-of .ensures) (c .before .before .put-cast .ensures)
+
+same-length-2 : tie.Need-same-length-2
+same-length-2 c = search needs
 
 returns-2 : tie.Need-returns-2
 unfolding callOf
@@ -20,14 +47,14 @@ pub put-call-spec : {M : Type 1} → statement M
 put-call-spec =
     tie.close
     (tie.spec
-    (λ c κs. search needs)
-    (λ c κs. search needs)
-    (λ c κs. search needs)
-    (λ c. search needs)
-    (λ c κs. search needs)
-    (λ c κs. search needs)
-    (λ c κs. search needs)
-    (λ c. search needs)
+    digit-table-requires
+    field-requires
+    number-of-requires
+    slice-aggregate-same
+    same-requires
+    put-cast-requires
+    put-plain-requires
+    same-length
     returns
-    (λ c. search needs)
+    same-length-2
     returns-2)

@@ -1,12 +1,14 @@
+-- There is a second value where the place is a type's. Assumes nothing.
+use Prim.Native.Nat.{ℕ, _+_}
+use mathlib.Core.Path.{ap}
 use native.Mathlib.Omega.{arith}
-use Rattle.spelling.proofs.Texts.{text-16}
-use Rattle.lines.specs.Line.{secondText}
+use borrow.Author.Tests.{ne-eqb}
+use Rattle.values.specs.Value.{kindAt}
+use Rattle.words.proofs.Tables.{own-place, typed}
+use Rattle.lines.specs.Program.{secondLength}
 use borrow.Author.Needs.{needs}
 use Rattle.lines.proofs.second_len.Statement.{statement}
 use Rattle.lines.proofs.second_len.Tie as tie
-
-is-type-requires : tie.Need-is-type-requires
-is-type-requires c κs = search needs
 
 text-len-requires : tie.Need-text-len-requires
 text-len-requires c κs = search needs
@@ -15,13 +17,15 @@ add-result : tie.Need-add-result
 add-result c = search needs
 
 returns : tie.Need-returns
-unfolding secondText
-returns c = (rw (← c .before .before .is-type .ensures, c .before .if1 .taken) (omega (arith, c .text-len .ensures .0, text-16 (c .before .before .before .args .v) (search needs))), omega (arith, c .text-len .ensures .1))
+unfolding secondLength kindAt
+returns c = (rw (c .if1 .taken), omega arith)
 
 returns-2 : tie.Need-returns-2
-unfolding secondText
-returns-2 c = (rw (← c .before .is-type .ensures, c .if1 .left), search needs)
+unfolding secondLength
+returns-2 c =
+    let p = c .before .before .args .p in
+    let own = own-place p (c .before .before .pre) in
+    (rw (← (typed (kindAt p)), own, ne-eqb p 0 (c .before .if1 .left)) (ap (λ (n : ℕ). n + 1) (c .text-len .ensures .0)), omega arith)
 
 pub second-len-spec : {M : Type 1} → statement M
-second-len-spec =
-    tie.close (tie.spec is-type-requires text-len-requires add-result returns returns-2)
+second-len-spec = tie.close (tie.spec text-len-requires add-result returns returns-2)

@@ -6,7 +6,7 @@ use Rattle.values.specs.declared.Kind.{Kind}
 use Rattle.values.specs.Value.{isType, shaped, sameKind}
 use Rattle.values.proofs.Bools.{agree}
 use Rattle.values.proofs.Places.{each}
-use Rattle.calls.specs.declared.Taken.the-variants.{Floats}
+use Rattle.calls.specs.Table.{Floats}
 use Rattle.calls.specs.Table.{taken}
 use Rattle.listings.specs.Answers.{isPair}
 use borrow.Author.Needs.{needs}

@@ -5,7 +5,7 @@ use borrow.Author.Needs.{needs}
 use borrow.Author.Tests.{leb-true}
 use lib.Dec.{leb}
 use Rattle.spelling.specs.Hex.{digitOf}
-use Rattle.spelling.proofs.Tested.{below, below-at}
+use Rattle.values.proofs.Tested.{below, below-at}
 use Rattle.spelling.proofs.digit.Statement.{statement}
 use Rattle.spelling.proofs.digit.Tie as tie
 

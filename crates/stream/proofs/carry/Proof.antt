@@ -5,9 +5,9 @@ use native.Mathlib.Omega.{arith}
 use lib.ListN.{length, take, length-set}
 use lib.Seq.{take-length}
 use borrow.Author.Needs.{needs}
-use Rattle.texts.specs.Memory.{put}
+use Rattle.buffers.specs.Memory.{put}
 use Rattle.stream.specs.Stream.{heldOf}
-use Rattle.texts.proofs.Puts.{put-nil}
+use Rattle.buffers.proofs.Puts.{put-nil}
 use Rattle.stream.proofs.Buffer.{length-held, held-none, held-turn}
 use Rattle.stream.proofs.carry.Statement.{statement}
 use Rattle.stream.proofs.carry.Tie as tie

@@ -4,7 +4,7 @@ use mathlib.Core.Path.{ap, _∙_}
 use native.Mathlib.Omega.{arith}
 use lib.ListN.{length}
 use borrow.Author.Needs.{needs}
-use Rattle.texts.specs.Memory.{put}
+use Rattle.buffers.specs.Memory.{put}
 use Rattle.stream.specs.Stream.{partOf, partText, linesIn}
 use Rattle.stream.proofs.Buffer.{held-part}
 use Rattle.stream.proofs.fold_held.Statement.{statement}

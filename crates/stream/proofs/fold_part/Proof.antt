@@ -5,9 +5,9 @@ use native.Mathlib.Omega.{arith}
 use native.Mathlib.Nat.{div-add-mod', zero-add, add-zero}
 use lib.ListN.{length, drop}
 use borrow.Author.Needs.{needs}
-use Rattle.texts.specs.Memory.{put}
+use Rattle.buffers.specs.Memory.{put}
 use Rattle.stream.specs.Stream.{lineRoom, pieceOf, pieceText, partText, partOf, partSize, partSkip, linesIn}
-use Rattle.texts.proofs.Puts.{put-nil}
+use Rattle.buffers.proofs.Puts.{put-nil}
 use Rattle.stream.proofs.Puts.{rest-all}
 use Rattle.stream.proofs.Parts.{from, same-part, from-turn, put-turn, size-in, used-in}
 use Rattle.stream.proofs.fold_part.Statement.{statement}

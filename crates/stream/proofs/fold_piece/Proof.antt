@@ -7,7 +7,7 @@ use native.Mathlib.Numerals.{add-one}
 use lib.ListN.{length, take}
 use lib.Dec.{ltb}
 use borrow.Author.Needs.{needs}
-use Rattle.texts.specs.Memory.{put}
+use Rattle.buffers.specs.Memory.{put}
 use Rattle.stream.specs.Printed.{answerLine}
 use Rattle.lines.specs.Line.{mostBytes}
 use Rattle.stream.specs.Lines.{newlineAt}

@@ -2,7 +2,7 @@ use Prim.Native.Nat.{ℕ, _-_}
 use mathlib.Core.Path.{_≡_, ap, _∙_}
 use lib.ListN.{length, take, drop, length-drop}
 use borrow.Author.Needs.{needs}
-use Rattle.texts.specs.Memory.{put}
+use Rattle.buffers.specs.Memory.{put}
 use Rattle.lines.specs.Line.{lineAnswer, writtenIn}
 use Rattle.stream.proofs.Puts.{rest-all, put-rest}
 use Rattle.stream.proofs.line_at.Statement.{statement}

@@ -1,6 +1,6 @@
 use mathlib.Core.Path.{refl}
 use borrow.Author.Needs.{needs}
-use Rattle.texts.proofs.Puts.{put-set}
+use Rattle.buffers.proofs.Puts.{put-set}
 use Rattle.stream.proofs.put_byte.Statement.{statement}
 use Rattle.stream.proofs.put_byte.Tie as tie
 

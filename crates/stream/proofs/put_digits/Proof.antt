@@ -3,9 +3,9 @@ use mathlib.Core.Path.{_≡_, refl, sym, _∙_}
 use native.Mathlib.Omega.{arith}
 use lib.ListN.{length, length-set}
 use borrow.Author.Needs.{needs}
-use Rattle.texts.specs.Memory.{put}
+use Rattle.buffers.specs.Memory.{put}
 use Rattle.stream.specs.Printed.{digits}
-use Rattle.texts.proofs.Puts.{put-nil}
+use Rattle.buffers.proofs.Puts.{put-nil}
 use Rattle.stream.proofs.Puts.{digit-turn}
 use Rattle.stream.proofs.put_digits.Statement.{statement}
 use Rattle.stream.proofs.put_digits.Tie as tie

@@ -1,6 +1,6 @@
 use mathlib.Core.Path.{sym}
 use borrow.Author.Needs.{needs}
-use Rattle.texts.proofs.Puts.{put-nil}
+use Rattle.buffers.proofs.Puts.{put-nil}
 use Rattle.stream.proofs.put_due.Statement.{statement}
 use Rattle.stream.proofs.put_due.Tie as tie
 

@@ -4,10 +4,10 @@ use mathlib.Core.List.{[], _∷_}
 use native.Mathlib.Omega.{arith}
 use lib.ListN.{length}
 use borrow.Author.Needs.{needs}
-use Rattle.texts.specs.Memory.{put}
+use Rattle.buffers.specs.Memory.{put}
 use Rattle.lines.specs.Line.{writtenIn}
 use Rattle.stream.specs.Printed.{refusedText, answerText, answerLine}
-use Rattle.texts.proofs.Puts.{then}
+use Rattle.buffers.proofs.Puts.{then}
 use Rattle.stream.proofs.Answers.{text-of, written-of, fit-of, text-le, length-line}
 use Rattle.stream.proofs.put_line.Statement.{statement}
 use Rattle.stream.proofs.put_line.Tie as tie

@@ -4,10 +4,10 @@ use mathlib.Core.List.{List, _++_}
 use native.Mathlib.Omega.{arith}
 use lib.ListN.{length}
 use borrow.Author.Needs.{needs}
-use Rattle.texts.specs.Memory.{put}
+use Rattle.buffers.specs.Memory.{put}
 use Rattle.stream.specs.Printed.{places, digits}
-use Rattle.texts.proofs.Puts.{put-nil, put-length, then}
-use Rattle.texts.proofs.Puts.{made}
+use Rattle.buffers.proofs.Puts.{put-nil, put-length, then}
+use Rattle.buffers.proofs.Puts.{made}
 use Rattle.stream.proofs.Answers.{word, refused-none, refused-some, length-refused}
 use Rattle.stream.proofs.put_refusal.Statement.{statement}
 use Rattle.stream.proofs.put_refusal.Tie as tie

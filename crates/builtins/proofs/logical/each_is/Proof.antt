@@ -1,65 +1,57 @@
--- The invariant: whether all n lanes are x comes to whether those from i on are. Assumes nothing.
-use Prim.Native.Nat.{ℕ, suc, _+_, _-_, _<_, _≤_}
-use mathlib.Core.Bool.{_&&_}
-use mathlib.Core.List.{List}
-use mathlib.Core.Path.{_≡_, sym, _∙_}
-use native.Mathlib.Nat.{sub-zero}
-use native.Mathlib.Numerals.{add-one}
+-- Four tests joined to the left are the test of each of the first n of a list of four: by n. Assumes nothing.
+use Prim.Native.Nat.{ℕ, zero, suc}
+use mathlib.Core.Bool.{_&&_, _||_, and-assoc, and-true, or-true, or-false}
+use mathlib.Core.List.{List, [], _∷_}
+use mathlib.Core.Path.{_≡_}
 use native.Mathlib.Omega.{arith}
-use borrow.Author.Needs.{needs}
-use borrow.Author.Tests.{eq-eqb, ne-eqb}
-use lib.Dec.{eqb}
-use lib.ListN.{length, take, drop, getD}
-use lib.Seq.{drop-cons}
+use borrow.Author.Tests.{le-ltb}
+use lib.Dec.{eqb, ltb}
+use lib.ListN.{length, take, getD}
+use lib.Seq.{take-nil}
 use Rattle.values.specs.Value.{every}
+use borrow.Author.Needs.{needs}
 use Rattle.builtins.proofs.logical.each_is.Statement.{statement}
 use Rattle.builtins.proofs.logical.each_is.Tie as tie
 
-next : (l : List ℕ) (n x i : ℕ) → i < length l → i < n
-    → every (λ y. eqb y x) (take (n - i) (drop i l)) ≡ eqb (getD l i 0) x && every (λ y. eqb y x) (take (n - (i + 1)) (drop (i + 1) l))
-next l n x i inside below =
-    let one-more : n - i ≡ suc (n - (i + 1)) = omega arith in
-    rw (one-more, drop-cons l i 0 inside, add-one i)
+each-of : (v n a b c d : ℕ) → (eqb a v || ltb n 1) && (eqb b v || ltb n 2) && (eqb c v || ltb n 3) && (eqb d v || ltb n 4) ≡ every (λ y. eqb y v) (take n (a ∷ b ∷ c ∷ d ∷ []))
+each-of v zero a b c d = simp or-true
+each-of v (suc zero) a b c d = simp (or-true, or-false, and-true)
+each-of v (suc (suc zero)) a b c d = simp (or-true, or-false, and-true)
+each-of v (suc (suc (suc zero))) a b c d = simp (or-true, or-false, and-true, and-assoc)
+each-of v (suc (suc (suc (suc n)))) a b c d =
+    let m = suc (suc (suc (suc n))) in
+    rw (le-ltb m 1 (omega arith), le-ltb m 2 (omega arith), le-ltb m 3 (omega arith), le-ltb m 4 (omega arith), take-nil n) (simp (or-false, and-true, and-assoc))
 
-abbrev Inv-loop : tie.InvT-loop
-Inv-loop n x lanes i₀ i = (i ≤ n) × (every (λ y. eqb y x) (take n lanes) ≡ every (λ y. eqb y x) (take (n - i) (drop i lanes)))
+four-each : (v n : ℕ) (x : List ℕ) → length x ≡ 4
+    → (eqb (getD x 0 0) v || ltb n 1) && (eqb (getD x 1 0) v || ltb n 2) && (eqb (getD x 2 0) v || ltb n 3) && (eqb (getD x 3 0) v || ltb n 4) ≡ every (λ y. eqb y v) (take n x)
+four-each v n (a ∷ b ∷ c ∷ d ∷ []) l = each-of v n a b c d
+four-each v n (a ∷ b ∷ c ∷ d ∷ e ∷ r) l = absurd (omega arith)
+four-each v n [] l = absurd (omega arith)
+four-each v n (a ∷ []) l = absurd (omega arith)
+four-each v n (a ∷ b ∷ []) l = absurd (omega arith)
+four-each v n (a ∷ b ∷ c ∷ []) l = absurd (omega arith)
 
-abbrev μ-loop : tie.MeasureT-loop
-μ-loop n x lanes i₀ i = n - i
+array-read-result : tie.Need-array-read-result
+array-read-result c = search needs
 
-loop-holds : tie.Need-loop-holds Inv-loop μ-loop
-loop-holds c = (search needs, rw sub-zero)
+array-read-result-2 : tie.Need-array-read-result-2
+array-read-result-2 c = search needs
 
-mul-if1 : tie.Need-mul-if1 Inv-loop μ-loop
-mul-if1 c = search needs
+array-read-result-3 : tie.Need-array-read-result-3
+array-read-result-3 c = search needs
 
-array-read-if1 : tie.Need-array-read-if1 Inv-loop μ-loop
-array-read-if1 c = search needs
+array-read-result-4 : tie.Need-array-read-result-4
+array-read-result-4 c = search needs
 
-returns : tie.Need-returns Inv-loop μ-loop
-returns c =
-    let a = c .before .before .before .args in
-    let i = c .before .before .loop .i in
-    let len : length (a .t1) ≡ 16 = search needs in
-    sym (c .before .before .loop .inv .1 ∙ next (a .t1) (a .n) (a .x) i (omega arith) (omega arith) ∙ rw (ne-eqb _ _ (c .if1 .taken)))
-
-add-i : tie.Need-add-i Inv-loop μ-loop
-add-i c = search needs
-
-loop-less : tie.Need-loop-less Inv-loop μ-loop
-loop-less c = search needs
-
-loop-again : tie.Need-loop-again Inv-loop μ-loop
-loop-again c =
-    let a = c .before .before .before .args in
-    let i = c .before .before .loop .i in
-    let len : length (a .t1) ≡ 16 = search needs in
-    (search needs, c .before .before .loop .inv .1 ∙ next (a .t1) (a .n) (a .x) i (omega arith) (omega arith) ∙ rw (eq-eqb _ _ (c .if1 .left)))
-
-returns-2 : tie.Need-returns-2 Inv-loop μ-loop
-returns-2 c =
-    let none : c .before .before .args .n - c .before .loop .i ≡ 0 = omega arith in
-    sym (c .before .loop .inv .1 ∙ rw none)
+returns : tie.Need-returns
+returns c = let len : length (c .args .t2) ≡ 4 = search needs in four-each (c .args .v) (c .args .n) (c .args .t2) len
 
 pub each-is-spec : {M : Type 1} → statement M
-each-is-spec = tie.close (tie.spec Inv-loop μ-loop loop-holds mul-if1 array-read-if1 returns add-i loop-less loop-again returns-2)
+each-is-spec =
+    tie.close
+    (tie.spec
+    array-read-result
+    array-read-result-2
+    array-read-result-3
+    array-read-result-4
+    returns)

@@ -1,26 +1,21 @@
--- The four lanes are the definition's, and the law of the lanes makes them the value. Assumes nothing.
-use mathlib.Core.List.{[], _∷_}
-use mathlib.Core.Path.{_≡_, _∙_}
+-- Each part of the outcome is what its function ensures. Assumes nothing.
+use mathlib.Core.Path.{_∙_}
 use borrow.Author.Needs.{needs}
-use lib.ListN.{length}
-use Rattle.values.specs.declared.Scalar.the-variants.{I32, U32}
-use Rattle.numeric.specs.Numeric.{onesLane}
-use Rattle.builtins.proofs.Lanewise.{each}
 use Rattle.builtins.proofs.numbers.count_one_bits.Statement.{statement}
 use Rattle.builtins.proofs.numbers.count_one_bits.Tie as tie
 
+one-value-requires : tie.Need-one-value-requires
+one-value-requires c κs = search needs
+
+count-one-bits-requires : tie.Need-count-one-bits-requires
+count-one-bits-requires c κs = search needs
+
+given-requires : tie.Need-given-requires
+given-requires c κs = search needs
+
 returns : tie.Need-returns
-returns c =
-    let v = c .before .before .before .before .args .v in
-    let p = c .before .before .before .before .pre in
-    let l : length (v .lanes) ≡ 16 = search needs in
-    c .answered-lanes .ensures ∙ each (I32 ∷ U32 ∷ []) onesLane v l (p .formed) (p .alone) _ (c .before .count-one-bits .ensures ∙ rw (c .before .before .cut .ensures))
+returns c = c .given .ensures ∙ rw (c .before .count-one-bits .ensures, c .before .before .one-value .ensures)
 
 pub count-one-bits-spec : {M : Type 1} → statement M
 count-one-bits-spec =
-    tie.close
-    (tie.spec
-    (λ c κs. search needs)
-    (λ c κs. search needs)
-    (λ c κs. search needs)
-    returns)
+    tie.close (tie.spec one-value-requires count-one-bits-requires given-requires returns)

@@ -1,26 +1,21 @@
--- The four lanes are the definition's, and the law of the lanes makes them the value. Assumes nothing.
-use mathlib.Core.List.{[], _∷_}
-use mathlib.Core.Path.{_≡_, _∙_}
+-- Each part of the outcome is what its function ensures. Assumes nothing.
+use mathlib.Core.Path.{_∙_}
 use borrow.Author.Needs.{needs}
-use lib.ListN.{length}
-use Rattle.values.specs.declared.Scalar.the-variants.{I32, U32}
-use Rattle.numeric.specs.Numeric.{trailingLane}
-use Rattle.builtins.proofs.Lanewise.{each}
 use Rattle.builtins.proofs.numbers.count_trailing_zeros.Statement.{statement}
 use Rattle.builtins.proofs.numbers.count_trailing_zeros.Tie as tie
 
+one-value-requires : tie.Need-one-value-requires
+one-value-requires c κs = search needs
+
+count-trailing-zeros-requires : tie.Need-count-trailing-zeros-requires
+count-trailing-zeros-requires c κs = search needs
+
+given-requires : tie.Need-given-requires
+given-requires c κs = search needs
+
 returns : tie.Need-returns
-returns c =
-    let v = c .before .before .before .before .args .v in
-    let p = c .before .before .before .before .pre in
-    let l : length (v .lanes) ≡ 16 = search needs in
-    c .answered-lanes .ensures ∙ each (I32 ∷ U32 ∷ []) trailingLane v l (p .formed) (p .alone) _ (c .before .count-trailing-zeros .ensures ∙ rw (c .before .before .cut .ensures))
+returns c = c .given .ensures ∙ rw (c .before .count-trailing-zeros .ensures, c .before .before .one-value .ensures)
 
 pub count-trailing-zeros-spec : {M : Type 1} → statement M
 count-trailing-zeros-spec =
-    tie.close
-    (tie.spec
-    (λ c κs. search needs)
-    (λ c κs. search needs)
-    (λ c κs. search needs)
-    returns)
+    tie.close (tie.spec one-value-requires count-trailing-zeros-requires given-requires returns)

@@ -1,28 +1,24 @@
--- The four lanes are the definition's, and the law of the lanes makes them the value. Assumes nothing.
-use mathlib.Core.List.{[], _∷_}
-use mathlib.Core.Path.{_≡_, _∙_}
+-- Each part of the outcome is what its function ensures. Assumes nothing.
+use mathlib.Core.Path.{_∙_}
 use borrow.Author.Needs.{needs}
-use lib.ListN.{length}
-use Rattle.values.specs.declared.Scalar.the-variants.{I32, U32, F32, F16}
-use Rattle.values.specs.Value.{scalarOf}
-use Rattle.numeric.specs.Numeric.{signLane}
-use Rattle.builtins.proofs.Lanewise.{each}
 use Rattle.builtins.proofs.numbers.sign.Statement.{statement}
 use Rattle.builtins.proofs.numbers.sign.Tie as tie
 
+one-value-requires : tie.Need-one-value-requires
+one-value-requires c κs = search needs
+
+scalar-at-requires : tie.Need-scalar-at-requires
+scalar-at-requires c κs = search needs
+
+sign-requires : tie.Need-sign-requires
+sign-requires c κs = search needs
+
+given-requires : tie.Need-given-requires
+given-requires c κs = search needs
+
 returns : tie.Need-returns
-returns c =
-    let v = c .before .before .before .before .before .args .v in
-    let p = c .before .before .before .before .before .pre in
-    let l : length (v .lanes) ≡ 16 = search needs in
-    c .answered-lanes .ensures ∙ each (I32 ∷ U32 ∷ F32 ∷ F16 ∷ []) (signLane (scalarOf (v .kind))) v l (p .formed) (p .alone) _ (c .before .sign .ensures ∙ rw (c .before .before .scalar-of .ensures, c .before .before .before .cut .ensures))
+returns c = c .given .ensures ∙ rw (c .before .sign .ensures, c .before .before .scalar-at .ensures, c .before .before .before .one-value .ensures)
 
 pub sign-spec : {M : Type 1} → statement M
 sign-spec =
-    tie.close
-    (tie.spec
-    (λ c κs. search needs)
-    (λ c κs. search needs)
-    (λ c κs. search needs)
-    (λ c κs. search needs)
-    returns)
+    tie.close (tie.spec one-value-requires scalar-at-requires sign-requires given-requires returns)

@@ -1,32 +1,24 @@
--- The four lanes are the definition's, and the law of the lanes makes them the value. Assumes nothing.
-use mathlib.Core.List.{[], _∷_}
-use mathlib.Core.Path.{_≡_, _∙_}
+-- Each part of the outcome is what its function ensures. Assumes nothing.
+use mathlib.Core.Path.{_∙_}
 use borrow.Author.Needs.{needs}
-use lib.ListN.{length}
-use Rattle.values.specs.declared.Scalar.the-variants.{F32}
-use Rattle.exponent.specs.Exponent.{ldexpLane}
-use Rattle.builtins.proofs.Lanewise.{each2}
 use Rattle.builtins.proofs.powers.ldexp.Statement.{statement}
 use Rattle.builtins.proofs.powers.ldexp.Tie as tie
 
+scaling-requires : tie.Need-scaling-requires
+scaling-requires c κs = search needs
+
+cut-at-requires : tie.Need-cut-at-requires
+cut-at-requires c κs = search needs
+
+ldexp-requires : tie.Need-ldexp-requires
+ldexp-requires c κs = search needs
+
+given-requires : tie.Need-given-requires
+given-requires c κs = search needs
+
 returns : tie.Need-returns
-returns c =
-    let s = c .before .before .before .before .before .before in
-    let x = s .args .x in
-    let n = s .args .n in
-    let p = s .pre in
-    let lx : length (x .lanes) ≡ 16 = search needs in
-    let ln : length (n .lanes) ≡ 16 = search needs in
-    c .answered-lanes .ensures
-    ∙ each2 (F32 ∷ []) ldexpLane x n lx ln (p .first .formed) (p .second .formed) (p .first .alone) _
-    (c .before .ldexp .ensures ∙ rw (c .before .before .cut2 .ensures, c .before .before .before .cut .ensures))
+returns c = c .given .ensures ∙ rw (c .before .ldexp .ensures, c .before .before .cut-at .ensures, c .before .before .before .scaling .ensures)
 
 pub ldexp-spec : {M : Type 1} → statement M
 ldexp-spec =
-    tie.close
-    (tie.spec
-    (λ c κs. search needs)
-    (λ c κs. search needs)
-    (λ c κs. search needs)
-    (λ c κs. search needs)
-    returns)
+    tie.close (tie.spec scaling-requires cut-at-requires ldexp-requires given-requires returns)

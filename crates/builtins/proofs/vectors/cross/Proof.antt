@@ -1,25 +1,24 @@
--- The lanes are the definition's, as the cut loses nothing. Assumes nothing.
+-- Each part of the outcome is what its function ensures. Assumes nothing.
 use mathlib.Core.Path.{_∙_}
 use borrow.Author.Needs.{needs}
-use Rattle.values.proofs.Places.{same}
-use Rattle.builtins.proofs.Products.{cross-is}
 use Rattle.builtins.proofs.vectors.cross.Statement.{statement}
 use Rattle.builtins.proofs.vectors.cross.Tie as tie
 
+two-alike-requires : tie.Need-two-alike-requires
+two-alike-requires c κs = search needs
+
+cut-at-requires : tie.Need-cut-at-requires
+cut-at-requires c κs = search needs
+
+cross-requires : tie.Need-cross-requires
+cross-requires c κs = search needs
+
+given-requires : tie.Need-given-requires
+given-requires c κs = search needs
+
 returns : tie.Need-returns
-returns c =
-    let a = c .before .before .before .before .before .before .args .a in
-    let b = c .before .before .before .before .before .before .args .b in
-    let p = c .before .before .before .before .before .before .pre in
-    c .answered-lanes .ensures
-    ∙ cross-is a b (p .first .formed) (p .second .formed) (same (p .first .alone)) _ (c .before .cross .ensures ∙ rw (c .before .before .before .cut .ensures, c .before .before .cut2 .ensures))
+returns c = c .given .ensures ∙ rw (c .before .cross .ensures, c .before .before .cut-at .ensures, c .before .before .before .two-alike .ensures)
 
 pub cross-spec : {M : Type 1} → statement M
 cross-spec =
-    tie.close
-    (tie.spec
-    (λ c κs. search needs)
-    (λ c κs. search needs)
-    (λ c κs. search needs)
-    (λ c κs. search needs)
-    returns)
+    tie.close (tie.spec two-alike-requires cut-at-requires cross-requires given-requires returns)

@@ -1,0 +1,114 @@
+-- What an arm works out of four lanes is the definition's answer, of the builtins that do more than act lane by lane: all and any, frexp, the packers and the unpackers, bitcast, cross and dot. One
+-- law for each shape, by the laws of four lanes. Assumes nothing.
+use Prim.Native.Nat.{ℕ, _-_, _%_, _^_, min}
+use mathlib.Core.Bool.{Bool, true, not, false≢true}
+use mathlib.Core.List.{List, map}
+use mathlib.Core.Path.{_≡_, refl, sym, ap, _∙_}
+use native.Mathlib.Omega.{arith}
+use lib.Dec.{eqb}
+use lib.ListN.{length, take, getD}
+use lib.Seq.{length-take-le}
+use Rattle.values.specs.declared.Scalar.{Scalar}
+use Rattle.values.specs.declared.Scalar.the-variants.{Boolean, I32, U32, F32}
+use Rattle.values.specs.declared.Size.{Size}
+use Rattle.values.specs.declared.Size.the-variants.{Three}
+use Rattle.values.specs.declared.Kind.{Kind}
+use Rattle.values.specs.declared.Kind.the-variants.{Empty, One, Vec, Mat}
+use Rattle.values.specs.declared.Value.{Value}
+use Rattle.values.specs.Value.{sizeOf, scalarOf, laneCount, shaped, place, kindAt, lanesOf, lane, value, every, wellFormed}
+use Rattle.values.specs.Program.{low, four, isLanes}
+use Rattle.values.proofs.Lanes.{few, lanes1, lanes1-as}
+use Rattle.values.proofs.Places.{there}
+use Rattle.products.specs.Products.{dotLane}
+use Rattle.numeric.specs.Parts.{parts, joined}
+use Rattle.exponent.specs.Exponent.{fractionLane, exponentLane}
+use Rattle.calls.specs.Table.{Numbers, Only}
+use Rattle.calls.specs.Program.{Passed, PassedCast}
+use Rattle.builtins.specs.Logical.{flag, allOf, anyOf}
+use Rattle.builtins.specs.Numeric.{crossOf, dotOf}
+use Rattle.builtins.specs.Exponent.{fractionOf, exponentOf}
+use Rattle.builtins.specs.Bitcast.{bitcastOf}
+use Rattle.builtins.specs.Pack.{filled, word, packed, unpacked}
+use Rattle.builtins.specs.Fold.{answered, answeredTwice}
+use Rattle.builtins.specs.Program.{cutOf, isHalf, recast, given, givenOne, givenTwo, crossFour, fillFour, answerIn}
+use Rattle.builtins.proofs.Casting.{cast-value}
+use Rattle.builtins.proofs.Packed.{value-lanes, packs, uncut}
+use Rattle.builtins.proofs.Products.{cross-is, dot-is}
+use Rattle.builtins.proofs.AgreeLanes.{by-type, by-scalar-type, held}
+
+same-count : (k : Kind) → isLanes k ≡ true → laneCount (shaped I32 k) ≡ laneCount k
+same-count (One s) t = refl
+same-count (Vec n s) t = refl
+same-count Empty t = refl
+same-count (Mat c r w) t = absurd (false≢true t)
+
+byte : (x : ℕ) → x % 2 ^ 32 % 2 ^ 8 ≡ x % 2 ^ 8
+byte x = omega arith
+
+-- ---- words: of the lanes that f makes codes of w bits of, and of lanes that fill those above them
+
+module _ (ok : Bool) (a : Value) where
+  pub agree-pack : (m : Size) (s : Scalar) (w : ℕ) (f : ℕ → ℕ) → length (a .lanes) ≡ 16 → Passed (Only (Vec m s)) a
+      → answerIn (givenOne ok 3 (joined w (take (sizeOf m) (four f (cutOf a))))) ≡ answered (packed w f a)
+  agree-pack m s w f la p = by-scalar-type ok U32 _ ∙ ap answered (packs m s w f a la p)
+
+  fill-is : fillFour (cutOf a) ≡ filled a
+  unfolding filled
+  fill-is = rw (byte (lane a 0), byte (lane a 1), byte (lane a 2), byte (lane a 3))
+
+  pub agree-fill : answerIn (givenOne ok 3 (fillFour (cutOf a))) ≡ answered (word (filled a))
+  agree-fill = by-scalar-type ok U32 _ ∙ ap (λ (x : ℕ). answered (word x)) fill-is
+
+  -- ---- lanes of a word: f of each of its m parts of w bits
+
+  pub agree-unpack : (w m : ℕ) (f : ℕ → ℕ) (k : Kind) (x : List ℕ) → wellFormed a ≡ true → take (laneCount k) x ≡ map f (parts w m (low (lane a 0)))
+      → answerIn (given ok (place k) x) ≡ answered (unpacked w m f k a)
+  unfolding unpacked
+  agree-unpack w m f k x fa lanes =
+      by-type ok k (λ l. x) ∙ ap (λ (l : List ℕ). answered (value k l)) lanes ∙ ap (λ (y : ℕ). answered (value k (map f (parts w m y)))) (uncut a fa)
+
+  -- ---- a value and a type
+
+  pub agree-bitcast : (t : ℕ) → length (a .lanes) ≡ 16 → PassedCast Numbers (kindAt t) a
+      → answerIn (given ok (place (kindAt t)) (recast (isHalf (scalarOf (kindAt (place (a .kind))))) (isHalf (scalarOf (kindAt t))) (cutOf a))) ≡ answered (bitcastOf (kindAt t) a)
+  agree-bitcast t la q =
+      rw (there (a .kind))
+      (by-type ok (kindAt t) (λ l. recast (isHalf (scalarOf (a .kind))) (isHalf (scalarOf (kindAt t))) (cutOf a)) ∙ ap answered (cast-value (kindAt t) a la q))
+
+  -- ---- two values of one type
+
+  module _ (b : Value) (fa : wellFormed a ≡ true) (fb : wellFormed b ≡ true) where
+    pub agree-cross : a .kind ≡ Vec Three F32 → answerIn (given ok (place (a .kind)) (crossFour (cutOf a) (cutOf b))) ≡ answered (crossOf a b)
+    agree-cross k = by-type ok (a .kind) (λ l. crossFour (cutOf a) (cutOf b)) ∙ ap answered (cross-is a b fa fb k)
+
+    pub agree-dot : isLanes (a .kind) ≡ true → let k = kindAt (place (a .kind)) in
+        answerIn (givenOne ok (place (One (scalarOf k))) (dotLane (scalarOf k) (λ i. getD (cutOf a) i 0) (λ i. getD (cutOf b) i 0) (min (laneCount k) 4 - 1))) ≡ answered (dotOf a b)
+    agree-dot is = rw (there (a .kind)) (by-scalar-type ok (scalarOf (a .kind)) _ ∙ ap answered (dot-is a b fa fb is))
+
+-- ---- all, any and frexp
+
+module _ (ok : Bool) (a : Value) (la : length (a .lanes) ≡ 16) (is : isLanes (a .kind) ≡ true) (fa : wellFormed a ≡ true) where
+  -- the four lanes hold those in use
+  used : take (laneCount (a .kind)) (cutOf a) ≡ lanesOf a
+  used = sym (value-lanes (a .kind) _ (length-take-le (laneCount (a .kind)) (cutOf a) (few (a .kind) is))) ∙ ap lanesOf (held a la fa is)
+
+  pub agree-all : answerIn (givenOne ok 1 (flag (every (λ y. eqb y 1) (take (laneCount (kindAt (place (a .kind)))) (cutOf a))))) ≡ answered (allOf a)
+  unfolding allOf
+  agree-all = rw (there (a .kind), used) (by-scalar-type ok Boolean _)
+
+  pub agree-any : answerIn (givenOne ok 1 (flag (not (every (λ y. eqb y 0) (take (laneCount (kindAt (place (a .kind)))) (cutOf a)))))) ≡ answered (anyOf a)
+  unfolding anyOf
+  agree-any = rw (there (a .kind), used) (by-scalar-type ok Boolean _)
+
+  fractions : value (a .kind) (take (laneCount (a .kind)) (four (fractionLane (scalarOf (a .kind))) (cutOf a))) ≡ fractionOf a
+  unfolding fractionOf
+  fractions = lanes1 (fractionLane (scalarOf (a .kind))) a la fa is
+
+  exponents : let l = shaped I32 (a .kind) in value l (take (laneCount l) (four (exponentLane (scalarOf (a .kind))) (cutOf a))) ≡ exponentOf a
+  unfolding exponentOf
+  exponents = lanes1-as (shaped I32 (a .kind)) (exponentLane (scalarOf (a .kind))) a la fa is (same-count (a .kind) is)
+
+  pub agree-frexp : let k = kindAt (place (a .kind)) in
+      answerIn (givenTwo ok (place (a .kind)) (four (fractionLane (scalarOf k)) (cutOf a)) (place (shaped I32 k)) (four (exponentLane (scalarOf k)) (cutOf a))) ≡ answeredTwice (fractionOf a) (exponentOf a)
+  unfolding answeredTwice
+  agree-frexp = rw (there (a .kind), there (shaped I32 (a .kind)), fractions, exponents)

@@ -1,0 +1,28 @@
+-- What the callees ensure, put together, is the test of the shape, and `arm` says when it passes. Assumes nothing.
+use mathlib.Core.Path.{refl}
+use Rattle.values.proofs.Places.{there}
+use Rattle.words.specs.Program.{setOf}
+use Rattle.calls.specs.Table.{takes}
+use Rattle.calls.specs.declared.Builtin.the-variants.{Ldexp}
+use Rattle.calls.specs.declared.table.Shape.the-variants.{Scaling}
+use Rattle.calls.specs.Program.{typesOf}
+use Rattle.calls.proofs.Converse.{arm}
+use borrow.Author.Needs.{needs}
+use Rattle.calls.proofs.tests.scaling.Statement.{statement}
+use Rattle.calls.proofs.tests.scaling.Tie as tie
+
+among-requires : tie.Need-among-requires
+among-requires c κs = search needs
+
+integers-at-requires : tie.Need-integers-at-requires
+integers-at-requires c κs = search needs
+
+is-at-requires : tie.Need-is-at-requires
+is-at-requires c κs = search needs
+
+returns : tie.Need-returns
+unfolding setOf
+returns c = rw (c .is-at .ensures, c .before .integers-at .ensures .0, c .before .before .among .ensures, c .before .before .before .before .pre .0 .type, c .before .before .before .before .pre .1) (simp there (let a = c .before .before .before .before .args in arm (a .w .now) (a .p) (a .n) (typesOf (takes Ldexp)) (c .before .before .before .before .pre .0) Scaling refl))
+
+pub scaling-spec : {M : Type 1} → statement M
+scaling-spec = tie.close (tie.spec among-requires integers-at-requires is-at-requires returns)

@@ -1,0 +1,4 @@
+pub mod Codes
+pub mod LaneLaws
+pub mod PackedFormats
+pub mod Marked

@@ -1,0 +1,66 @@
+-- The words of an answer, where there is room for them all, are read as its two values: each has 16 lanes, as it is well formed or empty. Assumes nothing.
+use Prim.Native.Nat.{ℕ, _+_, _≤_}
+use mathlib.Core.List.{List, [], _++_, append-assoc}
+use mathlib.Core.Logic.{⊎-elim}
+use mathlib.Core.Path.{_≡_, refl, ap, sym, _∙_}
+use native.Mathlib.Omega.{arith}
+use borrow.Author.Tests.{eqb-true, eqb-false}
+use lib.Dec.{eqb}
+use lib.ListN.{length, drop}
+use Rattle.values.specs.Value.{emptyValue}
+use Rattle.values.proofs.Bools.{either}
+use Rattle.buffers.specs.Memory.{put}
+use Rattle.buffers.proofs.Puts.{given-refused, given-room}
+use Rattle.words.specs.Words.{valueAt, wordsOf}
+use Rattle.words.proofs.There.{said}
+use Rattle.calls.specs.Words.{callOf}
+use Rattle.builtins.specs.Fold.{foldOf}
+use Rattle.builtins.specs.Words.{answerOf, refusalIn, writtenIn}
+use Rattle.builtins.proofs.Called.{lanes-16}
+use Rattle.formed.specs.Answers.{AnswerFormed, Held}
+use Rattle.formed.proofs.Answered.{answers-formed}
+
+module _ (w : List ℕ) where
+  held : Held (callOf w)
+  unfolding callOf
+  held = record { a = lanes-16 w 3; b = lanes-16 w 20; c = lanes-16 w 37 }
+
+  module _ (room : ℕ) (h : 34 ≤ room) where
+    in-room : foldOf (callOf w) .refusal ≡ 0 → (refusalIn room w ≡ 0) × (writtenIn room w ≡ answerOf w)
+    unfolding refusalIn writtenIn
+    in-room e = given-room room 34 (foldOf (callOf w) .refusal) (answerOf w) e h
+
+    told : refusalIn room w ≡ foldOf (callOf w) .refusal
+    unfolding refusalIn writtenIn
+    told =
+        let refusal = foldOf (callOf w) .refusal in
+        ⊎-elim (λ t. in-room (eqb-true refusal 0 t) .0 ∙ sym (eqb-true refusal 0 t)) (λ t. given-refused room 34 refusal (answerOf w) (eqb-false refusal 0 t) .0) (either (eqb refusal 0))
+
+  module _ (e : foldOf (callOf w) .refusal ≡ 0) where
+    formed : AnswerFormed (foldOf (callOf w))
+    formed = answers-formed (callOf w) held e
+
+    first-16 : length (foldOf (callOf w) .first .lanes) ≡ 16
+    first-16 = formed .first .lanes
+
+    second-16 : length (foldOf (callOf w) .second .lanes) ≡ 16
+    unfolding emptyValue
+    second-16 = ⊎-elim (λ none. rw none) (λ pair. pair .second .lanes) (formed .second)
+
+  -- of memory o before and o′ after
+  pub answer-words : (o : List ℕ) {r : ℕ} {o′ : List ℕ} → 34 ≤ length o → r ≡ refusalIn (length o) w → o′ ≡ put o 0 (writtenIn (length o) w)
+      → (r ≡ foldOf (callOf w) .refusal) × (r ≡ 0 → (valueAt o′ 0 ≡ foldOf (callOf w) .first) × (valueAt o′ 17 ≡ foldOf (callOf w) .second))
+  unfolding put answerOf
+  answer-words o {r} {o′} h er eo = (is, values)
+    where
+      is : r ≡ foldOf (callOf w) .refusal
+      is = er ∙ told (length o) h
+
+      values : r ≡ 0 → (valueAt o′ 0 ≡ foldOf (callOf w) .first) × (valueAt o′ 17 ≡ foldOf (callOf w) .second)
+      values z =
+          let e : foldOf (callOf w) .refusal ≡ 0 = sym is ∙ z in
+          let first = foldOf (callOf w) .first in
+          let second = foldOf (callOf w) .second in
+          let rest : List ℕ = drop (0 + length (answerOf w)) o in
+          let there : o′ ≡ wordsOf first ++ (wordsOf second ++ rest) = eo ∙ ap (put o 0) (in-room (length o) h e .1) ∙ simp append-assoc in
+          (said [] (wordsOf second ++ rest) first (first-16 e) there refl, said (wordsOf first) rest second (second-16 e) there (omega (arith, first-16 e)))

@@ -1,0 +1,199 @@
+// min, max, clamp, saturate and step. A lane that goes by numbers is chosen by a test; an f32 lane is compared as the float that it stands for.
+use values::Scalar;
+ghost use mathlib.Core.Path.{_≡_};
+ghost use lib.Ieee.{binary32, ofBits, le};
+ghost use Rattle.half.specs.Convert.{singleOf};
+ghost use Rattle.values.specs.Program.{four, four2, four3};
+ghost use Rattle.limits.specs.Limits.{above, maxFloat, minFloat, maxLane, minLane, clampLane, saturateLane, stepLane};
+
+// How far an i32 lies above the least.
+fn above_least(x: u32) -> u32
+    ensures { λ r. ⌜ r ≡ above x ⌝ }
+{
+    std::num::wrapping_add_u32(x, 0x8000_0000)
+}
+
+// ---- max
+
+fn max_i32(x: u32, y: u32) -> u32
+    ensures { λ r. ⌜ r ≡ maxLane Scalar.I32 x y ⌝ }
+{
+    numeric::choose(above_least(x) < above_least(y), y, x)
+}
+
+fn max_u32(x: u32, y: u32) -> u32
+    ensures { λ r. ⌜ r ≡ maxLane Scalar.U32 x y ⌝ }
+{
+    numeric::choose(x < y, y, x)
+}
+
+// Only a NaN differs from itself, and it is below nothing.
+fn max_float(x: f32, y: f32) -> f32
+    ensures { λ r. ⌜ r ≡ maxFloat x y ⌝ }
+{
+    if (x != x) | (x < y) { y } else { x }
+}
+
+fn max_f32(x: u32, y: u32) -> u32
+    ensures { λ r. ⌜ r ≡ maxLane Scalar.F32 x y ⌝ }
+{
+    floats::bits_of(max_float(floats::f32_of(x), floats::f32_of(y)))
+}
+
+pub fn max_lane(s: Scalar, x: u32, y: u32) -> u32
+    ensures { λ r. ⌜ r ≡ maxLane s x y ⌝ }
+{
+    match s {
+        Scalar::Boolean => x,
+        Scalar::I32 => max_i32(x, y),
+        Scalar::U32 => max_u32(x, y),
+        Scalar::F32 => max_f32(x, y),
+        Scalar::F16 => x,
+    }
+}
+
+pub fn max(s: Scalar, x: [u32; 4], y: [u32; 4]) -> [u32; 4]
+    ensures { λ r. ⌜ r ≡ four2 (maxLane s) x y ⌝ }
+{
+    [
+        max_lane(s, x[0], y[0]),
+        max_lane(s, x[1], y[1]),
+        max_lane(s, x[2], y[2]),
+        max_lane(s, x[3], y[3]),
+    ]
+}
+
+// ---- min
+
+fn min_i32(x: u32, y: u32) -> u32
+    ensures { λ r. ⌜ r ≡ minLane Scalar.I32 x y ⌝ }
+{
+    numeric::choose(above_least(y) < above_least(x), y, x)
+}
+
+fn min_u32(x: u32, y: u32) -> u32
+    ensures { λ r. ⌜ r ≡ minLane Scalar.U32 x y ⌝ }
+{
+    numeric::choose(y < x, y, x)
+}
+
+fn min_float(x: f32, y: f32) -> f32
+    ensures { λ r. ⌜ r ≡ minFloat x y ⌝ }
+{
+    if (x != x) | (y < x) { y } else { x }
+}
+
+fn min_f32(x: u32, y: u32) -> u32
+    ensures { λ r. ⌜ r ≡ minLane Scalar.F32 x y ⌝ }
+{
+    floats::bits_of(min_float(floats::f32_of(x), floats::f32_of(y)))
+}
+
+pub fn min_lane(s: Scalar, x: u32, y: u32) -> u32
+    ensures { λ r. ⌜ r ≡ minLane s x y ⌝ }
+{
+    match s {
+        Scalar::Boolean => x,
+        Scalar::I32 => min_i32(x, y),
+        Scalar::U32 => min_u32(x, y),
+        Scalar::F32 => min_f32(x, y),
+        Scalar::F16 => x,
+    }
+}
+
+pub fn min(s: Scalar, x: [u32; 4], y: [u32; 4]) -> [u32; 4]
+    ensures { λ r. ⌜ r ≡ four2 (minLane s) x y ⌝ }
+{
+    [
+        min_lane(s, x[0], y[0]),
+        min_lane(s, x[1], y[1]),
+        min_lane(s, x[2], y[2]),
+        min_lane(s, x[3], y[3]),
+    ]
+}
+
+// ---- clamp, saturate
+
+pub fn clamp_lane(s: Scalar, e: u32, low: u32, high: u32) -> u32
+    ensures { λ r. ⌜ r ≡ clampLane s e low high ⌝ }
+{
+    min_lane(s, max_lane(s, e, low), high)
+}
+
+pub fn clamp(s: Scalar, e: [u32; 4], low: [u32; 4], high: [u32; 4]) -> [u32; 4]
+    ensures { λ r. ⌜ r ≡ four3 (clampLane s) e low high ⌝ }
+{
+    [
+        clamp_lane(s, e[0], low[0], high[0]),
+        clamp_lane(s, e[1], low[1], high[1]),
+        clamp_lane(s, e[2], low[2], high[2]),
+        clamp_lane(s, e[3], low[3], high[3]),
+    ]
+}
+
+pub fn saturate_lane(x: u32) -> u32
+    ensures { λ r. ⌜ r ≡ saturateLane x ⌝ }
+{
+    clamp_lane(Scalar::F32, x, 0, 0x3f80_0000)
+}
+
+pub fn saturate(x: [u32; 4]) -> [u32; 4]
+    ensures { λ r. ⌜ r ≡ four saturateLane x ⌝ }
+{
+    [
+        saturate_lane(x[0]),
+        saturate_lane(x[1]),
+        saturate_lane(x[2]),
+        saturate_lane(x[3]),
+    ]
+}
+
+// ---- step
+
+fn at_most(x: u32, y: u32) -> bool
+    ensures { λ r. ⌜ r ≡ le (ofBits binary32 x) (ofBits binary32 y) ⌝ }
+{
+    floats::f32_of(x) <= floats::f32_of(y)
+}
+
+// The f32 of a half in the low 16 bits. A greater number has the sign and its low 15 bits, as the definition has it.
+fn single_of(x: u32) -> u32
+    ensures { λ r. ⌜ r ≡ singleOf x ⌝ }
+{
+    half::f16_to_f32((numeric::choose(0x8000 <= x, 0x8000, 0) + x % 0x8000) as u16)
+}
+
+fn step_f32(edge: u32, x: u32) -> u32
+    ensures { λ r. ⌜ r ≡ stepLane Scalar.F32 edge x ⌝ }
+{
+    numeric::choose(at_most(edge, x), 0x3f80_0000, 0)
+}
+
+fn step_f16(edge: u32, x: u32) -> u32
+    ensures { λ r. ⌜ r ≡ stepLane Scalar.F16 edge x ⌝ }
+{
+    numeric::choose(at_most(single_of(edge), single_of(x)), 0x3c00, 0)
+}
+
+pub fn step_lane(s: Scalar, edge: u32, x: u32) -> u32
+    ensures { λ r. ⌜ r ≡ stepLane s edge x ⌝ }
+{
+    match s {
+        Scalar::Boolean => x,
+        Scalar::I32 => x,
+        Scalar::U32 => x,
+        Scalar::F32 => step_f32(edge, x),
+        Scalar::F16 => step_f16(edge, x),
+    }
+}
+
+pub fn step(s: Scalar, edge: [u32; 4], x: [u32; 4]) -> [u32; 4]
+    ensures { λ r. ⌜ r ≡ four2 (stepLane s) edge x ⌝ }
+{
+    [
+        step_lane(s, edge[0], x[0]),
+        step_lane(s, edge[1], x[1]),
+        step_lane(s, edge[2], x[2]),
+        step_lane(s, edge[3], x[3]),
+    ]
+}

@@ -1,0 +1,42 @@
+-- A call of words whose answer has a refusal is answered by that refusal alone: what a builtin of the table answers has none, which is one computed test over the table. Assumes nothing.
+use Prim.Native.Nat.{ℕ, zero, suc}
+use mathlib.Core.Bool.{Bool, true, false, cond, false≢true}
+use mathlib.Core.List.{List}
+use mathlib.Core.Logic.{⊎-elim}
+use mathlib.Core.Path.{_≡_, refl, sym, _∙_}
+use native.Mathlib.Omega.{arith}
+use lib.Dec.{eqb}
+use lib.ListN.{getD}
+use Rattle.values.specs.declared.Kind.{Kind}
+use Rattle.values.specs.declared.Value.{Value}
+use Rattle.values.specs.Value.{kindAt}
+use Rattle.values.proofs.Bools.{either}
+use Rattle.words.specs.Words.{valueAt}
+use Rattle.calls.specs.declared.Builtin.{Builtin}
+use Rattle.calls.specs.Table.{Row, takes, builtinAt}
+use Rattle.calls.specs.Refuse.{inTable, judged, refusalOf}
+use Rattle.calls.specs.Words.{callOf}
+use Rattle.calls.proofs.Shaped.{each}
+use Rattle.builtins.specs.Fold.{refused, answered, answeredTwice, answerBy, foldBy, foldOf}
+
+in-table : (row : Row) (n : ℕ) (t : Kind) (a b c : Value) → judged row n t a b c ≡ 0 → inTable row ≡ true
+unfolding judged
+in-table row n t a b c e = ⊎-elim (λ known. known) (λ unknown. absurd (omega (arith, rw unknown at e))) (either (inTable row))
+
+module _ (t : Kind) (a b c : Value) where
+  abbrev answers : ℕ → Builtin → Bool
+  answers i which = cond (inTable (takes which)) (eqb (answerBy which t a b c .refusal) 0) true
+
+  no-refusal : (i : ℕ) → inTable (takes (builtinAt i)) ≡ true → eqb (answerBy (builtinAt i) t a b c .refusal) 0 ≡ true
+  unfolding answered answeredTwice
+  no-refusal i h = rw h at (each answers (λ n. refl) refl i)
+
+pub refused-so : (w : List ℕ) → eqb (foldOf (callOf w) .refusal) 0 ≡ false → foldOf (callOf w) ≡ refused (foldOf (callOf w) .refusal)
+unfolding foldOf callOf refused
+refused-so w = by (refusalOf (callOf w)) refl
+  where
+    by : (n : ℕ) → refusalOf (callOf w) ≡ n → eqb (foldBy n (callOf w) .refusal) 0 ≡ false → foldBy n (callOf w) ≡ refused (foldBy n (callOf w) .refusal)
+    by zero e t =
+        let k = in-table (takes (builtinAt (getD w 0 0))) (getD w 1 0) (kindAt (getD w 2 0)) (valueAt w 3) (valueAt w 20) (valueAt w 37) e in
+        absurd (false≢true (sym t ∙ no-refusal (kindAt (getD w 2 0)) (valueAt w 3) (valueAt w 20) (valueAt w 37) (getD w 0 0) k))
+    by (suc n) e t = refl

@@ -1,0 +1,51 @@
+// 01's records as a view of the fold of words: a call by value, and its answer by value.
+use builtins::Answer;
+use calls::Call;
+ghost use mathlib.Core.Path.{_≡_};
+ghost use lib.ListN.{length, replicate};
+ghost use Rattle.calls.specs.Words.{callOf};
+ghost use Rattle.builtins.specs.Fold.{foldOf};
+
+// The words of a call.
+fn put_call(w: &mut [u64], call: Call)
+    requires { ⌜ length (now w) ≡ 54 ⌝ }
+    ensures { λ _. ⌜ callOf (now (w .exit)) ≡ call ⌝ }
+{
+    let which = call.builtin;
+    let target = call.target;
+    let a = call.a;
+    let b = call.b;
+    let c = call.c;
+    words::put_value(w, 3, a);
+    words::put_value(w, 20, b);
+    words::put_value(w, 37, c);
+    calls::put_head(
+        w,
+        calls::number_of(which),
+        call.count as u64,
+        values::place_of(target),
+    );
+}
+
+// A refused call leaves the words of its answer as they are: two empty values.
+fn fold_in(w: &mut [u64], out: &mut [u64], call: Call) -> Answer
+    requires { ⌜ (length (now w) ≡ 54) × (now out ≡ replicate 34 0) ⌝ }
+    ensures { λ r. ⌜ r ≡ foldOf call ⌝ }
+{
+    put_call(w, call);
+    let refusal = builtins::fold(w, out);
+    Answer {
+        refusal: refusal,
+        first: words::value_at(out, 0),
+        second: words::value_at(out, 17),
+    }
+}
+
+// What a call gives.
+pub fn fold(call: Call) -> Answer
+    ensures { λ r. ⌜ r ≡ foldOf call ⌝ }
+{
+    let mut w = [0; 54];
+    let mut out = [0; 34];
+    fold_in(&mut w, &mut out, call)
+}

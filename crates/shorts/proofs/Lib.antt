@@ -1,6 +1,0 @@
-pub mod ByPlace
-pub mod Fields
-pub mod Heads
-pub mod Kept
-pub mod LongTexts
-pub mod TypeTexts

@@ -1,2 +1,0 @@
-pub mod Shorts
-pub mod Texts

@@ -1,0 +1,5 @@
+pub mod Digits
+pub mod LanePuts
+pub mod TypeTexts
+pub mod ValueTexts
+pub mod Told
