@@ -160,11 +160,11 @@ pub struct Call {
     pub c: Value,
 }
 
-// The types of a builtin's row, as a set.
-pub fn set_of(n: u64) -> u64
-    ensures { λ r. ⌜ r ≡ typesOf (takes (builtinAt n)) ⌝ }
+// The types of a builtin's row, as a set. Of a builtin that is written out it is a constant.
+pub fn types_of(b: Builtin) -> u64
+    ensures { λ r. ⌜ r ≡ typesOf (takes b) ⌝ }
 {
-    let row = table::entry_of(builtin_at(n));
+    let row = table::entry_of(b);
     row.set
 }
 

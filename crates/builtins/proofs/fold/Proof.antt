@@ -22,8 +22,8 @@ formed c = sym (c .before .formed-at .ensures) ∙ not-false _ (c .if1 .left)
 there : (c : tie.Else1) → 20 ≤ length (c .before .before .before .before .args .w .now)
 there c = all-there (c .before .before .before .before .args .w .now) 3 (formed c)
 
-worked-out : (c : tie.After-arm) → Worked (c .before .before .before .before .before .before .before .before .before .before .before .args .w .now) (c .arm .result)
-worked-out c = worked (c .before .before .before .before .before .before .before .before .before .before .before .args .w .now) (formed (c .before .before .before .before .before .before .before)) (c .before .before .before .before .before .if2 .left) (c .before .before .before .builtin-at .ensures) (c .before .cut-at .ensures) (c .arm .ensures)
+worked-out : (c : tie.After-arm) → Worked (c .before .before .before .before .before .before .before .before .before .before .args .w .now) (c .arm .result)
+worked-out c = worked (c .before .before .before .before .before .before .before .before .before .before .args .w .now) (formed (c .before .before .before .before .before .before)) (c .before .before .before .before .if2 .left) (c .before .before .builtin-at .ensures) (c .before .cut-at .ensures) (c .arm .ensures)
 
 formed-at-requires : tie.Need-formed-at-requires
 formed-at-requires c κs = search needs
@@ -55,23 +55,20 @@ shared-slice-read-i c = let h = there (c .before .before .before) in search need
 builtin-at-requires : tie.Need-builtin-at-requires
 builtin-at-requires c κs = search needs
 
-set-of-requires : tie.Need-set-of-requires
-set-of-requires c κs = search needs
-
 cut-at-requires : tie.Need-cut-at-requires
 cut-at-requires c κs = search needs
 
 arm-requires : tie.Need-arm-requires
 arm-requires c κs =
-    let h = there (c .before .before .before .before .before .before) in
-    (omega arith, first (c .before .before .before .before .before .before .before .before .before .before .args .w .now) (formed (c .before .before .before .before .before .before)), c .before .before .before .before .if2 .left, rw (c .before .before .builtin-at .ensures) (c .before .set-of .ensures))
+    let h = there (c .before .before .before .before .before) in
+    (omega arith, first (c .before .before .before .before .before .before .before .before .before .args .w .now) (formed (c .before .before .before .before .before)), c .before .before .before .if2 .left)
 
 refusal-of-requires-2 : tie.Need-refusal-of-requires-2
 refusal-of-requires-2 c κs = search needs
 
 returns-3 : tie.Need-returns-3
 returns-3 c =
-    let a = c .before .before .before .before .before .before .before .before .before .before .before .before .before .before .args in
+    let a = c .before .before .before .before .before .before .before .before .before .before .before .before .before .args in
     let t = told-refused (a .out .now) (a .w .now) (worked-out (c .before .before .before) .refused (c .before .if3 .taken)) in
     (c .refusal-of2 .ensures ∙ t .0, t .1)
 
@@ -82,7 +79,7 @@ same-length-2 : tie.Need-same-length-2
 same-length-2 c = search needs
 
 returns-4 : tie.Need-returns-4
-returns-4 c = let a = c .before .before .before .before .before .before .before .before .before .before .before .before .before .before .before .before .before .args in told-answer (a .out .now) (a .w .now) (worked-out (c .before .before .before .before .before .before) .answers (c .before .before .before .before .if3 .left)) refl (c .before .before .put-answer .ensures)
+returns-4 c = let a = c .before .before .before .before .before .before .before .before .before .before .before .before .before .before .before .before .args in told-answer (a .out .now) (a .w .now) (worked-out (c .before .before .before .before .before .before) .answers (c .before .before .before .before .if3 .left)) refl (c .before .before .put-answer .ensures)
 
 pub fold-spec : {M : Type 1} → statement M
 fold-spec =
@@ -97,7 +94,6 @@ fold-spec =
     returns-2
     shared-slice-read-i
     builtin-at-requires
-    set-of-requires
     cut-at-requires
     arm-requires
     refusal-of-requires-2
