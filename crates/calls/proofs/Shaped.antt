@@ -1,14 +1,14 @@
 -- What is judged by a row's shape and its set is what is judged by the row, by cases of the row: of a row of the table the other places take what the shape says,
 -- which is one computed test over the table. Assumes nothing.
-use Prim.Native.Nat.{ℕ, zero, suc, _+_, _<_, _≤_}
+use Prim.Native.Nat.{ℕ, zero, suc, _+_}
 use mathlib.Core.Bool.{Bool, true, false, _&&_, and-true, false≢true}
-use mathlib.Core.List.{List, [], _∷_, map}
+use mathlib.Core.List.{List, [], _∷_}
 use mathlib.Core.Path.{_≡_, refl, ap, sym, _∙_}
 use native.Mathlib.Nat.{add-zero, zero-add}
 use native.Mathlib.Omega.{arith}
 use borrow.Author.Tests.{eqb-true}
 use lib.Dec.{eqb}
-use lib.ListN.{length, getD, List·getD-eq-default}
+use lib.ListN.{getD}
 use Rattle.values.specs.declared.Kind.{Kind}
 use Rattle.values.specs.declared.Value.{Value}
 use Rattle.values.specs.Value.{kindAt, place}
@@ -17,7 +17,6 @@ use Rattle.values.proofs.Places.{itself}
 use Rattle.words.specs.Program.{member, setOf}
 use Rattle.words.specs.Words.{valueAt}
 use Rattle.words.proofs.Sets.{members}
-use Rattle.words.proofs.Tables.{inside, getD-map}
 use Rattle.calls.specs.declared.Builtin.{Builtin}
 use Rattle.calls.specs.declared.Builtin.the-variants.{Unknown}
 use Rattle.calls.specs.Table.{Taken, Anything, I32s, Together, OneType, Selectable, SameShape, Row, Absent, Unary, Binary, Ternary, Cast, taken, takes, builtins, builtinAt}
@@ -77,12 +76,6 @@ module _ (n : ℕ) (t : Kind) (a b c : Value) where
 
 -- ---- the table
 
--- a table by number of what f makes of each builtin
-pub tabled : {A : Type 0} (f : Builtin → A) (l : List A) → map f (Unknown ∷ builtins) ≡ l → length l ≡ 36 → (i : ℕ) → i < 36 → (d : A) → getD l i d ≡ f (builtinAt i)
-unfolding builtinAt
-tabled f l e n i h d =
-    inside l i d (f Unknown) (omega arith) ∙ ap (λ m. getD m i (f Unknown)) (sym e) ∙ getD-map f (Unknown ∷ builtins) i Unknown
-
 -- a test of every builtin, and of its number, is one computed test
 abbrev pub numbered : (ℕ → Builtin → Bool) → ℕ → List Builtin → Bool
 numbered f k [] = true
@@ -113,12 +106,3 @@ pub right : (w : List ℕ) {i n set r : ℕ} {s : Shape} → i ≡ getD w 0 0 �
 unfolding callOf
 right w {i} {n} ei en es et er =
     rw (er, es, et, ← ei, ← en) (by-shape n (kindAt (getD w 2 0)) (valueAt w 3) (valueAt w 20) (valueAt w 37) (takes (builtinAt i)) (regular-at i))
-
-pub none-past : (i : ℕ) → 36 ≤ i → builtinAt i ≡ Unknown
-unfolding builtinAt
-none-past i h = List·getD-eq-default (Unknown ∷ builtins) Unknown h
-
--- a call whose number is no builtin's
-pub unlisted : (w : List ℕ) → 36 ≤ getD w 0 0 → 1 ≡ refusalOf (callOf w)
-unfolding callOf judged
-unlisted w h = sym (rw (none-past (getD w 0 0) h))

@@ -9,7 +9,7 @@ use Rattle.diffs.specs.declared.Side.{Side}
 use Rattle.diffs.specs.declared.Side.the-variants.{Neither, Left, Right}
 use Rattle.diffs.specs.declared.Place.{Place}
 
--- a refusal and how much there is of an answer in one number, of which one is 0
+-- a refusal and how much there is of an answer, or where its fault is, in one number
 abbrev pub refusalOrCount : ℕ → ℕ → ℕ
 refusalOrCount refusal n = refusal * 2 ^ 32 + n
 
