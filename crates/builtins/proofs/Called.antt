@@ -24,7 +24,7 @@ use Rattle.calls.specs.declared.Builtin.{Builtin}
 use Rattle.calls.specs.Table.{matrix, takes, builtinAt}
 use Rattle.calls.specs.Refuse.{judged, refusalOf}
 use Rattle.calls.specs.Words.{callOf}
-use Rattle.calls.specs.Program.{First}
+use Rattle.calls.specs.Program.{First, FirstMatrix}
 use Rattle.calls.proofs.Converse.{from-implied}
 use Rattle.builtins.specs.Fold.{answerBy, foldOf}
 use Rattle.builtins.proofs.Folded.{folds}
@@ -71,21 +71,16 @@ module _ (w : List ℕ) (at : ℕ) where
 
 -- ---- the first value
 
-module _ (w : List ℕ) (f : wellFormed (valueAt w 3) ≡ true) where
-  pub first : First w (getD w 3 0)
-  first = record { formed = f; type = place-there w 3 f; within = known-there w 3 f }
+pub first-kind : {w : List ℕ} {p : ℕ} → FirstMatrix w p → kindAt p ≡ valueAt w 3 .kind
+first-kind {w} f = ap kindAt (f .type) ∙ Places.there (valueAt w 3 .kind)
 
-  pub of-lanes : getD w 3 0 ≤ 20 → isLanes (valueAt w 3 .kind) ≡ true
-  of-lanes h =
-      let k = valueAt w 3 .kind in
-      from-implied (λ l. isType l && leb (place l) 20) isLanes refl k (and (is-type (valueAt w 3) f) (le-leb (place k) 20 (rw (← place-there w 3 f) h)))
+pub first-lanes : {w : List ℕ} {p : ℕ} → First w p → isLanes (valueAt w 3 .kind) ≡ true
+first-lanes {w} f =
+    let k = valueAt w 3 .kind in
+    from-implied (λ l. isType l && leb (place l) 20) isLanes refl k (and (is-type (valueAt w 3) (f .formed)) (le-leb (place k) 20 (rw (← f .type) (f .within))))
 
-module _ {w : List ℕ} {p : ℕ} (f : First w p) where
-  pub first-kind : kindAt p ≡ valueAt w 3 .kind
-  first-kind = ap kindAt (f .type) ∙ Places.there (valueAt w 3 .kind)
-
-  pub first-matrix : 20 < p → matrix (valueAt w 3 .kind) ≡ true
-  first-matrix h = let k = valueAt w 3 .kind in from-implied (λ l. ltb 20 (place l)) matrix refl k (lt-ltb 20 (place k) (rw (← f .type) h))
+pub first-matrix : {w : List ℕ} {p : ℕ} → FirstMatrix w p → matrix (valueAt w 3 .kind) ≡ true
+first-matrix {w} f = let k = valueAt w 3 .kind in from-implied (λ l. ltb 20 (place l)) matrix refl k (lt-ltb 20 (place k) (rw (← f .type) (f .over)))
 
 -- ---- a call that is not refused, by its builtin
 

@@ -18,7 +18,7 @@ use Rattle.calls.specs.declared.Builtin.the-variants.{Select, Transpose}
 use Rattle.calls.specs.Table.{Anything, Booleans, Selectable, matrix, builtinAt}
 use Rattle.calls.specs.Refuse.{refusalOf}
 use Rattle.calls.specs.Words.{callOf}
-use Rattle.calls.specs.Program.{First, Passed3}
+use Rattle.calls.specs.Program.{FirstMatrix, Passed3}
 use Rattle.calls.proofs.Matrices.{matrix-rows}
 use Rattle.calls.proofs.Passed.{ternary}
 use Rattle.builtins.specs.declared.Answer.{Answer}
@@ -50,7 +50,7 @@ answers-one : (v : Value) → length (v .lanes) ≡ 16 → OneValue (answered v)
 unfolding answered
 answers-one v l = record { refusal = refl; second = refl; sixteen = l }
 
-module _ (w : List ℕ) (p : ℕ) (f : First w p) (h : 20 < p) (z : refusalOf (callOf w) ≡ 0) where
+module _ (w : List ℕ) (p : ℕ) (f : FirstMatrix w p) (z : refusalOf (callOf w) ≡ 0) where
   -- ---- select
 
   module _ (e : getD w 0 0 ≡ 3) where
@@ -63,7 +63,7 @@ module _ (w : List ℕ) (p : ℕ) (f : First w p) (h : 20 < p) (z : refusalOf (c
 
     scalar : sameKind (valueAt w 37 .kind) (One Boolean) ≡ true
     scalar =
-        ⊎-elim (λ t. t) (λ t. absurd (no-lanes (valueAt w 3 .kind) (first-matrix f h) (lanes-to-choose selects t)))
+        ⊎-elim (λ t. t) (λ t. absurd (no-lanes (valueAt w 3 .kind) (first-matrix f) (lanes-to-choose selects t)))
         (either (sameKind (valueAt w 37 .kind) (One Boolean)))
 
     pub third-there : 54 ≤ length w
@@ -97,12 +97,12 @@ module _ (w : List ℕ) (p : ℕ) (f : First w p) (h : 20 < p) (z : refusalOf (c
     transposed-words = ap (λ (a : Answer). wordsOf (a .first)) (sym (folded w z Transpose is-transpose))
 
     transposed-one : OneValue (foldOf (callOf w))
-    transposed-one = rw (folded w z Transpose is-transpose) (answers-one _ (turned-length (valueAt w 3) (first-matrix f h)))
+    transposed-one = rw (folded w z Transpose is-transpose) (answers-one _ (turned-length (valueAt w 3) (first-matrix f)))
 
   -- ---- either
 
   pub other-words : (getD w 0 0 ≡ 3 → ⊥) → wordsOf (transposeOf (valueAt w 3)) ≡ wordsOf (foldOf (callOf w) .first)
-  other-words n = ⊎-elim (λ e. absurd (n e)) transposed-words (matrix-rows w z (first-matrix f h))
+  other-words n = ⊎-elim (λ e. absurd (n e)) transposed-words (matrix-rows w z (first-matrix f))
 
   pub one-value : OneValue (foldOf (callOf w))
-  one-value = ⊎-elim selected-one transposed-one (matrix-rows w z (first-matrix f h))
+  one-value = ⊎-elim selected-one transposed-one (matrix-rows w z (first-matrix f))

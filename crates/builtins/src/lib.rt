@@ -16,9 +16,10 @@ use values::Value;
 ghost use mathlib.Core.Path.{_≡_};
 ghost use Prim.Native.Nat.{_≤_};
 ghost use lib.Dec.{eqb};
-ghost use lib.ListN.{length, getD};
+ghost use lib.ListN.{length, take, getD};
+ghost use Rattle.values.specs.Value.{laneCount, kindAt, value};
 ghost use Rattle.buffers.specs.Memory.{put};
-ghost use Rattle.words.specs.Words.{valueAt};
+ghost use Rattle.words.specs.Words.{valueAt, wordsOf};
 ghost use Rattle.calls.specs.Table.{takes};
 ghost use Rattle.calls.specs.Program.{shapeOf, typesOf, judgedIn, First};
 ghost use Rattle.builtins.specs.Program.{given, givenOne, givenTwo, outcome, answerIn, Told};
@@ -76,7 +77,7 @@ fn given_two(ok: bool, p: u64, x: [u32; 4], q: u64, y: [u32; 4]) -> Outcome
 
 // The arm of each builtin. The one jump comes first; behind it each arm tests the call by the shape of its row and by the types of the row, a constant there.
 fn arm(which: Builtin, w: &[u64], p: u64, x: [u32; 4]) -> Outcome
-    requires { ⌜ (3 ≤ length (now w)) × First (now w) p × (p ≤ 20) ⌝ }
+    requires { ⌜ (3 ≤ length (now w)) × First (now w) p ⌝ }
     ensures { λ r. ⌜ r ≡ outcome which (eqb (judgedIn (shapeOf (takes which)) (typesOf (takes which)) (getD (now (w .entry)) 1 0) (now (w .entry))) 0)
         (getD (now (w .entry)) 2 0) p x (valueAt (now (w .entry)) 20) (valueAt (now (w .entry)) 37) ⌝ }
 {
@@ -276,6 +277,18 @@ const LAST_VECTOR: u64 = 20;
 
 // ---- calls
 
+// An answer's second value: most have none.
+fn put_second(out: &mut [u64], p: u64, y: [u32; 4])
+    requires { ⌜ (34 ≤ length (now out)) × (p ≤ 20) ⌝ }
+    ensures { λ _. ⌜ now (out .exit) ≡ put (now (out .entry)) 17 (wordsOf (value (kindAt p) (take (laneCount (kindAt p)) y))) ⌝ }
+{
+    if p == 0 {
+        words::clear(out, 17);
+    } else {
+        words::put_lanes(out, 17, p, y);
+    }
+}
+
 // An answer's two values, where there is room for them.
 fn put_answer(out: &mut [u64], a: Outcome) -> u8
     requires { ⌜ (a .first ≤ 20) × (a .second ≤ 20) ⌝ }
@@ -287,7 +300,7 @@ fn put_answer(out: &mut [u64], a: Outcome) -> u8
     let x = a.lanes;
     let y = a.exponents;
     words::put_lanes(out, 0, a.first, x);
-    words::put_lanes(out, 17, a.second, y);
+    put_second(out, a.second, y);
     0
 }
 
@@ -296,12 +309,15 @@ pub fn fold(w: &[u64], out: &mut [u64]) -> u8
     ensures { λ r. ⌜ (r ≡ refusalIn (length (now (out .entry))) (now (w .entry)))
         × (now (out .exit) ≡ put (now (out .entry)) 0 (writtenIn (length (now (out .entry))) (now (w .entry)))) ⌝ }
 {
-    if !words::formed_at(w, 3) {
-        return calls::refusal_of(w);
-    }
-    let p = w[3];
+    let p = words::place_at(w, 3);
     if p > LAST_VECTOR {
         return matrix::fold(w, p, out);
+    }
+    if p == 0 {
+        return calls::refusal_of(w);
+    }
+    if !words::formed_as(w, 3, p) {
+        return calls::refusal_of(w);
     }
     let i = w[0];
     let a = arm(calls::builtin_at(i), w, p, words::cut_at(w, 3));

@@ -9,7 +9,7 @@ ghost use Rattle.buffers.specs.Memory.{put};
 ghost use Rattle.words.specs.Words.{valueAt, wordsOf};
 ghost use Rattle.calls.specs.Refuse.{refusalOf};
 ghost use Rattle.calls.specs.Words.{callOf};
-ghost use Rattle.calls.specs.Program.{First};
+ghost use Rattle.calls.specs.Program.{FirstMatrix};
 ghost use Rattle.builtins.specs.Numeric.{transposeOf};
 ghost use Rattle.builtins.specs.Fold.{foldOf};
 ghost use Rattle.builtins.specs.Words.{refusalIn, writtenIn};
@@ -83,7 +83,7 @@ fn lane_at(m: [[u64; 4]; 4], n: usize, k: usize, j: usize) -> u64
 }
 
 fn put_transposed(w: &[u64], p: u64, out: &mut [u64])
-    requires { ⌜ First (now w) p × (20 < p) × (17 ≤ length (now out)) ⌝ }
+    requires { ⌜ FirstMatrix (now w) p × (17 ≤ length (now out)) ⌝ }
     ensures { λ _. ⌜ now (out .exit) ≡ put (now (out .entry)) 0 (wordsOf (transposeOf (valueAt (now (w .entry)) 3))) ⌝ }
 {
     let n = columns_at(p);
@@ -128,7 +128,7 @@ const SELECT: u64 = 3;
 
 // The first value of the answer, which is all of it.
 fn put_first(w: &[u64], p: u64, out: &mut [u64])
-    requires { ⌜ First (now w) p × (20 < p) × (17 ≤ length (now out)) × (refusalOf (callOf (now w)) ≡ 0) ⌝ }
+    requires { ⌜ FirstMatrix (now w) p × (17 ≤ length (now out)) × (refusalOf (callOf (now w)) ≡ 0) ⌝ }
     ensures { λ _. ⌜ now (out .exit) ≡ put (now (out .entry)) 0 (wordsOf (foldOf (callOf (now (w .entry))) .first)) ⌝ }
 {
     if w[0] == SELECT {
@@ -139,7 +139,7 @@ fn put_first(w: &[u64], p: u64, out: &mut [u64])
 }
 
 pub fn fold(w: &[u64], p: u64, out: &mut [u64]) -> u8
-    requires { ⌜ First (now w) p × (20 < p) ⌝ }
+    requires { ⌜ (p ≡ place (valueAt (now w) 3 .kind)) × (20 < p) × (p < 39) ⌝ }
     ensures { λ r. ⌜ (r ≡ refusalIn (length (now (out .entry))) (now (w .entry)))
         × (now (out .exit) ≡ put (now (out .entry)) 0 (writtenIn (length (now (out .entry))) (now (w .entry)))) ⌝ }
 {
@@ -151,6 +151,6 @@ pub fn fold(w: &[u64], p: u64, out: &mut [u64]) -> u8
         return 8;
     }
     put_first(w, p, out);
-    words::put_lanes(out, 17, 0, [0; 4]);
+    words::clear(out, 17);
     0
 }

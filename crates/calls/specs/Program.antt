@@ -1,5 +1,5 @@
 -- How the program judges a call: by the shape of its row and one set of types. No statement of what is refused rests on this. Definitions only.
-use Prim.Native.Nat.{ℕ, _<_}
+use Prim.Native.Nat.{ℕ, _≤_, _<_}
 use mathlib.Core.Bool.{Bool, true, false, _&&_, _||_}
 use mathlib.Core.List.{List}
 use mathlib.Core.Path.{_≡_}
@@ -99,10 +99,18 @@ passesAs Selecting set n t a b c = eqb n 3 && (isOf b (a .kind) && chooses set c
 passesAs Scaling set n t a b c = eqb n 2 && (has set (a .kind) && isOf b (shaped I32 (a .kind)))
 passesAs Casting set n t a b c = eqb n 2 && (has set (a .kind) && (has set t && eqb (byteSize t) (byteSize (a .kind))))
 
--- the first value of a call of words, as an arm is handed it: well formed, its type by its place
+-- the first value of a call of words, as an arm is handed it: a scalar or a vector, well formed, its type by its place
 pub record First (w : List ℕ) (p : ℕ) : Type 0 where
   pub formed : wellFormed (valueAt w 3) ≡ true
   pub type : p ≡ place (valueAt w 3 .kind)
+  pub known : 0 < p
+  pub within : p ≤ 20
+
+-- and a matrix
+pub record FirstMatrix (w : List ℕ) (p : ℕ) : Type 0 where
+  pub formed : wellFormed (valueAt w 3) ≡ true
+  pub type : p ≡ place (valueAt w 3 .kind)
+  pub over : 20 < p
   pub within : p < 39
 
 -- of a call of words

@@ -10,12 +10,12 @@ ghost use Rattle.calls.specs.declared.Builtin.the-variants.{Ldexp, Bitca
 ghost use Rattle.calls.specs.Table.{takes};
 ghost use Rattle.calls.specs.Program.{typesOf, judgedIn, isOf, chooses, First};
 
-// Whether a value of the type at p stands there, well formed.
+// Whether a scalar or a vector of the type at p stands there, well formed.
 fn is_at(w: &[u64], at: usize, p: u64) -> bool
-    requires { ⌜ (at ≤ 37) × (p < 39) ⌝ }
+    requires { ⌜ (at ≤ 37) × (0 < p) × (p ≤ 20) ⌝ }
     ensures { λ r. ⌜ r ≡ isOf (valueAt (now (w .entry)) at) (kindAt p) ⌝ }
 {
-    words::formed_at(w, at) & (words::place_at(w, at) == p)
+    words::formed_as(w, at, p)
 }
 
 // Whether a condition of a type of the set stands third that chooses among values of the type at p.

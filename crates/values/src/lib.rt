@@ -223,13 +223,21 @@ fn all_ok(l: &[u64], n: usize, bound: u64) -> bool
     true
 }
 
-// Whether the first n of 16 lanes are below the bound and the others 0: of four or fewer without a branch.
+// Whether the first n of 16 lanes, four at most, are below the bound and the others 0: without a branch.
+pub fn few_formed(l: &[u64], n: usize, bound: u64) -> bool
+    requires { ⌜ (length (now l) ≡ 16) × (n ≤ 4) ⌝ }
+    ensures { λ r. ⌜ r ≡ every (λ x. ltb x bound) (take n (now (l .entry))) && every (λ x. eqb x 0) (drop n (now (l .entry))) ⌝ }
+{
+    four_ok(l, n, bound) & none_past(l)
+}
+
+// Whether the first n of 16 lanes are below the bound and the others 0.
 pub fn lanes_formed(l: &[u64], n: usize, bound: u64) -> bool
     requires { ⌜ length (now l) ≡ 16 ⌝ }
     ensures { λ r. ⌜ r ≡ every (λ x. ltb x bound) (take n (now (l .entry))) && every (λ x. eqb x 0) (drop n (now (l .entry))) ⌝ }
 {
     if n <= 4 {
-        four_ok(l, n, bound) & none_past(l)
+        few_formed(l, n, bound)
     } else {
         all_ok(l, n, bound)
     }

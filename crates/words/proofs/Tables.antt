@@ -5,7 +5,7 @@ use mathlib.Core.List.{List, [], _∷_, map}
 use mathlib.Core.Path.{_≡_, refl, ap, sym, _∙_}
 use native.Mathlib.Nat.{add-zero, zero-add}
 use native.Mathlib.Omega.{arith}
-use borrow.Author.Tests.{ltb-true, leb-true, eqb-true, ne-eqb, le-leb}
+use borrow.Author.Tests.{ltb-true, leb-true, eqb-true, ne-eqb, lt-ltb, le-leb}
 use lib.Dec.{eqb, ltb, leb}
 use lib.ListN.{length, getD}
 use lib.Seq.{drop-cons}
@@ -13,14 +13,10 @@ use Rattle.values.specs.declared.Scalar.{Scalar}
 use Rattle.values.specs.declared.Scalar.the-variants.{Boolean, I32, U32, F32, F16}
 use Rattle.values.specs.declared.Kind.{Kind}
 use Rattle.values.specs.declared.Kind.the-variants.{Empty}
-use Rattle.values.specs.Value.{scalars, scalarPlace, scalarOf, kinds, kindAt, laneCount, place, isType}
+use Rattle.values.specs.Value.{scalars, scalarPlace, scalarOf, kinds, kindAt, laneCount, shaped, place, isType}
 use Rattle.values.proofs.Bools.{both, and, agree}
 use Rattle.values.proofs.Places.{each}
 use Rattle.values.proofs.Tested.{below, below-at}
-
--- within a list it does not matter what is said to stand past its end
-pub inside : {A : Type 0} (l : List A) (i : ℕ) (a b : A) → i < length l → getD l i a ≡ getD l i b
-inside l i a b h = cc (drop-cons l i a h, drop-cons l i b h)
 
 -- the product of two sizes
 pub sixteen : (a b : ℕ) → a ≤ 4 → b ≤ 4 → a * b ≤ 16
@@ -62,6 +58,15 @@ typed k = agree (not (eqb (place k) 0)) (isType k) (each (λ l. alike (not (eqb 
 
 pub place-below : (k : Kind) → place k < 39
 place-below k = ltb-true (place k) 39 (each (λ l. ltb (place l) 39) refl k)
+
+-- the shape of another type with i32 lanes is a scalar's or a vector's, and one where that is one
+pub integers-below : (k : Kind) → place (shaped I32 k) ≤ 20
+integers-below k = leb-true (place (shaped I32 k)) 20 (each (λ l. leb (place (shaped I32 l)) 20) refl k)
+
+pub integers-known : (k : Kind) → 0 < place k → place k ≤ 20 → 0 < place (shaped I32 k)
+integers-known k z l =
+    let t = each (λ m. cond (ltb 0 (place m) && leb (place m) 20) (ltb 0 (place (shaped I32 m))) true) refl k in
+    ltb-true 0 (place (shaped I32 k)) (rw (lt-ltb 0 (place k) z, le-leb (place k) 20 l) at t)
 
 pub count-below : (k : Kind) → laneCount k ≤ 16
 count-below k = leb-true (laneCount k) 16 (each (λ l. leb (laneCount l) 16) refl k)

@@ -3,11 +3,11 @@ pub mod types;
 
 use values::Value;
 ghost use mathlib.Core.Path.{_≡_};
-ghost use mathlib.Core.Bool.{cond};
+ghost use mathlib.Core.Bool.{cond, _&&_};
 ghost use Prim.Native.Nat.{_+_, _≤_, _<_};
-ghost use lib.Dec.{ltb};
+ghost use lib.Dec.{eqb, ltb};
 ghost use lib.ListN.{length, take, drop, getD};
-ghost use Rattle.values.specs.Value.{laneCount, place, kindAt, value, wellFormed};
+ghost use Rattle.values.specs.Value.{laneCount, place, kindAt, value, emptyValue, wellFormed};
 ghost use Rattle.values.specs.Program.{low, four};
 ghost use Rattle.buffers.specs.Memory.{put};
 ghost use Rattle.words.specs.Words.{valueAt, wordsOf};
@@ -41,6 +41,17 @@ pub fn formed_at(w: &[u64], at: usize) -> bool
     (p != 0) & values::lanes_formed(&w[at + 1..at + 17], types::count_at(p), types::bound_at(p))
 }
 
+// Whether a scalar or a vector of the type at p stands there, well formed: without a branch, once all words are there.
+pub fn formed_as(w: &[u64], at: usize, p: u64) -> bool
+    requires { ⌜ (at ≤ 37) × (0 < p) × (p ≤ 20) ⌝ }
+    ensures { λ r. ⌜ r ≡ wellFormed (valueAt (now (w .entry)) at) && eqb (place (valueAt (now (w .entry)) at .kind)) p ⌝ }
+{
+    if w.len() < at + 17 {
+        return false;
+    }
+    (w[at] == p) & values::few_formed(&w[at + 1..at + 17], types::few_at(p), types::bound_at(p))
+}
+
 // The first four lanes of the value that stands there, cut to 32 bits: of a well-formed scalar or vector nothing is lost.
 pub fn cut_at(w: &[u64], at: usize) -> [u32; 4]
     requires { ⌜ at ≤ 37 ⌝ }
@@ -59,6 +70,18 @@ pub fn cut_at(w: &[u64], at: usize) -> [u32; 4]
 
 // ---- put
 
+// The words of the empty value, from `at` on.
+pub fn clear(out: &mut [u64], at: usize)
+    requires { ⌜ at + 17 ≤ length (now out) ⌝ }
+    ensures { λ _. ⌜ now (out .exit) ≡ put (now (out .entry)) at (wordsOf emptyValue) ⌝ }
+{
+    let mut i = 0;
+    while i < 17 {
+        out[at + i] = 0;
+        i += 1;
+    }
+}
+
 fn lane_at(i: usize, n: usize, x: [u32; 4]) -> u64
     ensures { λ r. ⌜ r ≡ cond (ltb i 4) (cond (ltb i n) (getD x i 0) 0) 0 ⌝ }
 {
@@ -74,7 +97,7 @@ pub fn put_lanes(out: &mut [u64], at: usize, p: u64, x: [u32; 4])
     requires { ⌜ (at + 17 ≤ length (now out)) × (p ≤ 20) ⌝ }
     ensures { λ _. ⌜ now (out .exit) ≡ put (now (out .entry)) at (wordsOf (value (kindAt p) (take (laneCount (kindAt p)) x))) ⌝ }
 {
-    let n = types::count_at(p);
+    let n = types::few_at(p);
     out[at] = p;
     let mut i = 0;
     while i < 16 {

@@ -24,13 +24,21 @@ pub fn known(n: u64) -> u64
     if n < 39 { n } else { 0 }
 }
 
+// How many lanes the type has, of a scalar or a vector.
+pub fn few_at(p: u64) -> usize
+    requires { ⌜ p ≤ 20 ⌝ }
+    ensures { λ r. ⌜ (r ≡ laneCount (kindAt p)) × (r ≤ 4) ⌝ }
+{
+    ((p + 4) / 5) as usize
+}
+
 // How many lanes the type has.
 pub fn count_at(p: u64) -> usize
     requires { ⌜ p < 39 ⌝ }
     ensures { λ r. ⌜ (r ≡ laneCount (kindAt p)) × (r ≤ 16) ⌝ }
 {
     if p <= 20 {
-        return ((p + 4) / 5) as usize;
+        return few_at(p);
     }
     let columns = (p - 21) % 9 / 3 + 2;
     let rows = (p - 21) % 3 + 2;
@@ -102,7 +110,7 @@ pub fn booleans_at(p: u64) -> u64
 // The type of that shape with i32 lanes.
 pub fn integers_at(p: u64) -> u64
     requires { ⌜ p < 39 ⌝ }
-    ensures { λ r. ⌜ (r ≡ place (shaped I32 (kindAt p))) × (r < 39) ⌝ }
+    ensures { λ r. ⌜ (r ≡ place (shaped I32 (kindAt p))) × (r ≤ 20) ⌝ }
 {
     shaped_at(p, 1)
 }

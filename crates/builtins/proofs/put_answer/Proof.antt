@@ -14,8 +14,8 @@ returns c = told-short (answerIn (c .before .before .args .a)) (c .before .befor
 put-lanes-requires : tie.Need-put-lanes-requires
 put-lanes-requires c κs = search needs
 
-put-lanes-requires-2 : tie.Need-put-lanes-requires-2
-put-lanes-requires-2 c κs = search needs
+put-second-requires : tie.Need-put-second-requires
+put-second-requires c κs = search needs
 
 same-length : tie.Need-same-length
 same-length c = search needs
@@ -25,8 +25,8 @@ returns-2 c =
     let s = c .before .before .before .before .before .before .before .before .before .before .before .before .args in
     let a = s .a in
     let len : length (a .lanes) ≡ 4 = search needs in
-    told-written (answerIn a) (s .out .now) (c .before .before .before .before .before .before .before .before .before .before .if1 .left) (first-length (a .first) (a .lanes) len) (c .before .before .before .before .before .before .put-lanes .ensures) (c .before .before .put-lanes2 .ensures)
+    told-written (answerIn a) (s .out .now) (c .before .before .before .before .before .before .before .before .before .before .if1 .left) (first-length (a .first) (a .lanes) len) (c .before .before .before .before .before .before .put-lanes .ensures) (c .before .before .put-second .ensures)
 
 pub put-answer-spec : {M : Type 1} → statement M
 put-answer-spec =
-    tie.close (tie.spec returns put-lanes-requires put-lanes-requires-2 same-length returns-2)
+    tie.close (tie.spec returns put-lanes-requires put-second-requires same-length returns-2)

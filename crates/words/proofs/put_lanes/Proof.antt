@@ -19,8 +19,8 @@ Inv-loop out₀ at p x n i₀ out i = (i ≤ 16) × (length out ≡ length out�
 abbrev μ-loop : tie.MeasureT-loop
 μ-loop out₀ at p x n i₀ out i = 16 - i
 
-count-at-requires : tie.Need-count-at-requires Inv-loop μ-loop
-count-at-requires c κs = search needs
+few-at-requires : tie.Need-few-at-requires Inv-loop μ-loop
+few-at-requires c κs = search needs
 
 mul-out : tie.Need-mul-out Inv-loop μ-loop
 mul-out c = search needs
@@ -62,7 +62,7 @@ loop-again c =
     let m = l .inv .1 ∙ length-set (a .out .now) (a .at) _ in
     let four : length (a .x) ≡ 4 = search needs in
     let n = first-length (a .p) (a .x) four in
-    let e = first-lane (a .p) (a .x) (l .i) four (c .before .loop-test .taken) (c .before .before .before .count-at .ensures .0) (c .lane-at .ensures) in
+    let e = first-lane (a .p) (a .x) (l .i) four (c .before .loop-test .taken) (c .before .before .before .few-at .ensures .0) (c .lane-at .ensures) in
     (search needs, simp length-set m, l .inv .2 ∙ rw e (put-drop (l .out) (a .at + 1) (firstOf (a .p) (a .x) .lanes) (l .i) (omega arith) (omega arith)))
 
 same-length : tie.Need-same-length Inv-loop μ-loop
@@ -87,7 +87,7 @@ put-lanes-spec =
     (tie.spec
     Inv-loop
     μ-loop
-    count-at-requires
+    few-at-requires
     mul-out
     slice-write-out
     loop-holds

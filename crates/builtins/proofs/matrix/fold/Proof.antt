@@ -1,10 +1,14 @@
 -- A refused call is told its refusal; of one that is not, the first value is written, and the empty one after it. Assumes nothing.
-use mathlib.Core.List.{[], _∷_}
+use mathlib.Core.Logic.{inl, inr}
 use mathlib.Core.Path.{_≡_, refl, sym, _∙_}
-use lib.ListN.{take}
-use Rattle.values.specs.Value.{laneCount, kindAt, value, emptyValue}
+use borrow.Author.Tests.{eqb-false}
+use Rattle.values.specs.Value.{wellFormed}
+use Rattle.values.proofs.Bools.{either}
+use Rattle.words.specs.Words.{valueAt}
 use Rattle.calls.specs.Refuse.{refusalOf}
 use Rattle.calls.specs.Words.{callOf}
+use Rattle.calls.specs.Program.{FirstMatrix}
+use Rattle.calls.proofs.Converse.{unformed}
 use Rattle.builtins.specs.Fold.{foldOf}
 use Rattle.builtins.proofs.Folded.{told-refused, told-short, told-written, told-answer}
 use Rattle.builtins.proofs.Matrices.{OneValue, one-value}
@@ -12,16 +16,28 @@ use borrow.Author.Needs.{needs}
 use Rattle.builtins.proofs.matrix.fold.Statement.{statement}
 use Rattle.builtins.proofs.matrix.fold.Tie as tie
 
-none : value (kindAt 0) (take (laneCount (kindAt 0)) (0 ∷ 0 ∷ 0 ∷ 0 ∷ [])) ≡ emptyValue
-unfolding value kindAt emptyValue
-none = refl
-
 -- once the refusal is tested
 unrefused : (c : tie.Else1) → refusalOf (callOf (c .before .before .before .before .args .w .now)) ≡ 0
 unrefused c = sym (c .before .refusal-of .ensures) ∙ search needs
 
+-- the first value is then well formed
+first : (c : tie.Else1) → FirstMatrix (c .before .before .before .before .args .w .now) (c .before .before .before .before .args .p)
+first c =
+    let s = c .before .before .before .before in
+    let w = s .args .w .now in
+    record {
+      formed =
+          elim (either (wellFormed (valueAt w 3))) [
+            | inl t ↦ t
+            | inr t ↦ absurd (eqb-false _ 0 (unformed w t) (unrefused c))
+          ];
+      type = s .pre .0;
+      over = s .pre .1;
+      within = s .pre .2;
+    }
+
 one : (c : tie.Else1) → OneValue (foldOf (callOf (c .before .before .before .before .args .w .now)))
-one c = let s = c .before .before .before .before in one-value (s .args .w .now) (s .args .p) (s .pre .0) (s .pre .1) (unrefused c)
+one c = let s = c .before .before .before .before in one-value (s .args .w .now) (s .args .p) (first c) (unrefused c)
 
 refusal-of-requires : tie.Need-refusal-of-requires
 refusal-of-requires c κs = search needs
@@ -37,10 +53,10 @@ returns-2 : tie.Need-returns-2
 returns-2 c = let a = c .before .before .before .before .before .args in told-answer (a .out .now) (a .w .now) refl (one (c .before) .refusal) (told-short (foldOf (callOf (a .w .now))) (a .out .now) (c .if2 .taken))
 
 put-first-requires : tie.Need-put-first-requires
-put-first-requires c κs = (c .before .before .before .before .before .before .pre .0, c .before .before .before .before .before .before .pre .1, search needs, unrefused (c .before .before))
+put-first-requires c κs = (first (c .before .before), search needs, unrefused (c .before .before))
 
-put-lanes-requires : tie.Need-put-lanes-requires
-put-lanes-requires c κs = search needs
+clear-requires : tie.Need-clear-requires
+clear-requires c κs = search needs
 
 same-length : tie.Need-same-length
 same-length c = search needs
@@ -50,7 +66,7 @@ returns-3 c =
     let a = c .before .before .before .before .before .before .before .before .before .before .before .before .before .args in
     let o = one (c .before .before .before .before .before .before .before .before .before) in
     told-answer (a .out .now) (a .w .now) refl (o .refusal)
-    (told-written (foldOf (callOf (a .w .now))) (a .out .now) (c .before .before .before .before .before .before .before .before .if2 .left) (o .sixteen) (c .before .before .before .before .before .before .put-first .ensures) (rw (o .second, ← none) (c .before .before .put-lanes .ensures)))
+    (told-written (foldOf (callOf (a .w .now))) (a .out .now) (c .before .before .before .before .before .before .before .before .if2 .left) (o .sixteen) (c .before .before .before .before .before .before .put-first .ensures) (rw (o .second) (c .before .before .clear .ensures)))
 
 pub fold-spec : {M : Type 1} → statement M
 fold-spec =
@@ -60,6 +76,6 @@ fold-spec =
     returns
     returns-2
     put-first-requires
-    put-lanes-requires
+    clear-requires
     same-length
     returns-3)

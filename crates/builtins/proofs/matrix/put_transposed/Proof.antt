@@ -1,4 +1,4 @@
--- The turnedKind type's place is the first word; from there the invariant is that writing all lanes comes to writing those from j on. Assumes nothing.
+-- The turned type's place is the first word; from there the invariant is that writing all lanes comes to writing those from j on. Assumes nothing.
 use Prim.Native.Nat.{ℕ, _+_, _-_, _*_, _/_, _%_, _≤_, _<_}
 use mathlib.Core.Bool.{Bool, true, false, cond}
 use mathlib.Core.List.{List, []}
@@ -15,7 +15,7 @@ use Rattle.values.specs.Value.{laneCount, place, kindAt, lane}
 use Rattle.buffers.specs.Memory.{put}
 use Rattle.buffers.proofs.Puts.{put-cons, put-drop, put-nil}
 use Rattle.words.specs.Words.{valueAt}
-use Rattle.calls.specs.Program.{First}
+use Rattle.calls.specs.Program.{FirstMatrix}
 use Rattle.builtins.specs.Numeric.{transposeOf}
 use Rattle.builtins.specs.Program.{columnsOf, rowsOf, turnedKind, columns, at, turned}
 use Rattle.builtins.proofs.Called.{all-there, lane-there, first-kind, first-matrix}
@@ -38,13 +38,13 @@ stands : (w : List ℕ) (j n i : ℕ) → 20 ≤ length w → (j < n → i < 16)
 stands w j n i h g true e = sym (lane-there w 3 h i (g (ltb-true j n e)))
 stands w j n i h g false e = refl
 
-module _ {w : List ℕ} {p : ℕ} (f : First w p) where
+module _ {w : List ℕ} {p : ℕ} (f : FirstMatrix w p) where
   -- a lane as the code has it
-  moved : 20 < p → (j : ℕ) {c r n x : ℕ} {m : List (List ℕ)} → c ≡ columnsOf (kindAt p) → r ≡ rowsOf (kindAt p) → n ≡ laneCount (kindAt p) → m ≡ turned (columns r w)
+  moved : (j : ℕ) {c r n x : ℕ} {m : List (List ℕ)} → c ≡ columnsOf (kindAt p) → r ≡ rowsOf (kindAt p) → n ≡ laneCount (kindAt p) → m ≡ turned (columns r w)
       → x ≡ cond (ltb j n) (at m (j / c) (j % c)) 0 → x ≡ getD (transposeOf (valueAt w 3) .lanes) j 0
-  moved h j {c} {r} {n} ec er en em ex =
+  moved j {c} {r} {n} ec er en em ex =
       let v = valueAt w 3 in
-      let m = first-matrix f h in
+      let m = first-matrix f in
       let k = v .kind in
       let one = ec ∙ ap columnsOf (first-kind f) in
       let two = er ∙ ap rowsOf (first-kind f) in
@@ -70,7 +70,7 @@ rows-at-requires c κs = search needs
 columns-requires : tie.Need-columns-requires Inv-loop μ-loop
 columns-requires c κs =
     let d = c .before .before .before .before in
-    (rw (c .rows-at .ensures, first-kind (d .pre .0)) (few-rows (valueAt (d .args .w .now) 3 .kind) (first-matrix (d .pre .0) (d .pre .1))), all-there (d .args .w .now) 3 (d .pre .0 .formed))
+    (rw (c .rows-at .ensures, first-kind (d .pre .0)) (few-rows (valueAt (d .args .w .now) 3 .kind) (first-matrix (d .pre .0))), all-there (d .args .w .now) 3 (d .pre .0 .formed))
 
 turned-requires : tie.Need-turned-requires Inv-loop μ-loop
 turned-requires c κs = search needs
@@ -91,7 +91,7 @@ lane-at-requires : tie.Need-lane-at-requires Inv-loop μ-loop
 lane-at-requires c κs =
     let d = c .before .before .before .before .before .before .before .before .before .before in
     let k = valueAt (d .args .w .now) 3 .kind in
-    let m = first-matrix (d .pre .0) (d .pre .1) in
+    let m = first-matrix (d .pre .0) in
     let e = c .before .before .before .before .before .before .before .columns-at .ensures ∙ ap columnsOf (first-kind (d .pre .0)) in
     let n = c .before .before .before .count-at .ensures .0 ∙ ap laneCount (first-kind (d .pre .0)) ∙ counted k m in
     (rw e (some-columns k m), rw e (few-columns k m), rw (e, n) (at-most-four (columnsOf k) (rowsOf k) (few-rows k m)))
@@ -119,9 +119,9 @@ loop-again c =
     let v = valueAt (d .args .w .now) 3 in
     let l = c .before .before .loop in
     let n = l .inv .1 ∙ length-set (d .args .out .now) 0 _ in
-    let s = turned-length v (first-matrix (d .pre .0) (d .pre .1)) in
+    let s = turned-length v (first-matrix (d .pre .0)) in
     let m = c .before .before .before .before .before .turned .ensures ∙ ap turned (c .before .before .before .before .before .before .columns .ensures) in
-    let e = moved (d .pre .0) (d .pre .1) (l .j) (c .before .before .before .before .before .before .before .before .columns-at .ensures) (c .before .before .before .before .before .before .before .rows-at .ensures) (c .before .before .before .before .count-at .ensures .0) m (c .lane-at .ensures) in
+    let e = moved (d .pre .0) (l .j) (c .before .before .before .before .before .before .before .before .columns-at .ensures) (c .before .before .before .before .before .before .before .rows-at .ensures) (c .before .before .before .before .count-at .ensures .0) m (c .lane-at .ensures) in
     (search needs, simp length-set n, l .inv .2 ∙ rw e (put-drop (l .out) 1 (transposeOf v .lanes) (l .j) (omega arith) (omega arith)))
 
 same-length : tie.Need-same-length Inv-loop μ-loop
@@ -133,7 +133,7 @@ returns c =
     let v = valueAt (d .args .w .now) 3 in
     let o = d .args .out .now in
     let l = c .before .loop in
-    let m = first-matrix (d .pre .0) (d .pre .1) in
+    let m = first-matrix (d .pre .0) in
     let s = turned-length v m in
     let lanes = transposeOf v .lanes in
     let e : l .j ≡ length lanes = omega arith in

@@ -1,6 +1,11 @@
 -- What the callees ensure, put together, is the test of the shape, and `arm` says when it passes. Assumes nothing.
-use mathlib.Core.Path.{refl}
+use mathlib.Core.Path.{refl, ap, _∙_}
+use Rattle.values.specs.declared.Scalar.the-variants.{I32}
+use Rattle.values.specs.declared.Kind.{Kind}
+use Rattle.values.specs.Value.{shaped, place, kindAt}
+use Rattle.words.specs.Words.{valueAt}
 use Rattle.values.proofs.Places.{there}
+use Rattle.words.proofs.Tables.{integers-known}
 use Rattle.words.specs.Program.{setOf}
 use Rattle.calls.specs.Table.{takes}
 use Rattle.calls.specs.declared.Builtin.the-variants.{Ldexp}
@@ -18,7 +23,11 @@ integers-at-requires : tie.Need-integers-at-requires
 integers-at-requires c κs = search needs
 
 is-at-requires : tie.Need-is-at-requires
-is-at-requires c κs = search needs
+is-at-requires c κs =
+    let f = c .before .before .before .pre .0 in
+    let k = valueAt (c .before .before .before .args .w .now) 3 .kind in
+    let e = c .integers-at .ensures .0 ∙ ap (λ (l : Kind). place (shaped I32 l)) (ap kindAt (f .type) ∙ there k) in
+    (search needs, rw e (integers-known k (rw (f .type) at (f .known)) (rw (f .type) at (f .within))), c .integers-at .ensures .1)
 
 returns : tie.Need-returns
 unfolding setOf

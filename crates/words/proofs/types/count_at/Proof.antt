@@ -1,9 +1,9 @@
--- Five types to a length, and columns times rows, as one test over the places computes. Assumes nothing.
+-- Of few lanes `few_at` says it; of a matrix it is columns times rows, as one test over the places computes. Assumes nothing.
 use Prim.Native.Nat.{_+_, _-_, _*_, _/_, _%_}
 use mathlib.Core.Path.{refl}
 use native.Mathlib.Omega.{arith}
-use borrow.Author.Tests.{le-leb, lt-ltb}
-use lib.Dec.{leb, ltb}
+use borrow.Author.Tests.{lt-ltb}
+use lib.Dec.{ltb}
 use Rattle.values.specs.Value.{laneCount, kindAt}
 use Rattle.words.proofs.Tables.{equal-where, sixteen, count-below}
 use Rattle.values.proofs.Tested.{below}
@@ -11,15 +11,11 @@ use borrow.Author.Needs.{needs}
 use Rattle.words.proofs.types.count_at.Statement.{statement}
 use Rattle.words.proofs.types.count_at.Tie as tie
 
-add-result : tie.Need-add-result
-add-result c = search needs
+few-at-requires : tie.Need-few-at-requires
+few-at-requires c κs = search needs
 
 returns : tie.Need-returns
-unfolding kindAt below
-returns c =
-    let p = c .before .args .p in
-    let e = equal-where (λ q. leb q 20) (λ q. (q + 4) / 5) (λ q. laneCount (kindAt q)) refl p (c .before .pre) (le-leb p 20 (c .if1 .taken)) in
-    (e, rw e (count-below (kindAt p)))
+returns c = search needs
 
 sub-columns : tie.Need-sub-columns
 sub-columns c = search needs
@@ -48,4 +44,4 @@ returns-2 c =
 pub count-at-spec : {M : Type 1} → statement M
 count-at-spec =
     tie.close
-    (tie.spec add-result returns sub-columns add-columns sub-rows add-rows mul-result returns-2)
+    (tie.spec few-at-requires returns sub-columns add-columns sub-rows add-rows mul-result returns-2)
