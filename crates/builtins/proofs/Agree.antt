@@ -25,7 +25,8 @@ use Rattle.packing.specs.declared.Coding8.the-variants as Of8
 use Rattle.packing.specs.declared.Coding16.the-variants as Of16
 use Rattle.packing.specs.Program.{code8Of, lane8Of, code16Of, lane16Of}
 use Rattle.builtins.specs.Fold.{answerBy}
-use Rattle.builtins.specs.Program.{cutOf, outcome, answerIn}
+use Rattle.arms.specs.Program.{cutOf, outcome}
+use Rattle.builtins.specs.Program.{answerIn}
 use Rattle.builtins.proofs.AgreeLanes.{agree1, agree2, agree3, agree-select}
 use Rattle.builtins.proofs.AgreeOthers.{agree-all, agree-any, agree-frexp, agree-pack, agree-fill, agree-unpack, agree-bitcast, agree-cross, agree-dot}
 

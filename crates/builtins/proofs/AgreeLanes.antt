@@ -21,8 +21,10 @@ use Rattle.values.proofs.Places.{there, same}
 use Rattle.calls.specs.Table.{Anything, Booleans, Selectable}
 use Rattle.calls.specs.Program.{Passed3}
 use Rattle.builtins.specs.Fold.{answered}
-use Rattle.builtins.specs.Logical.{selectLane, selectOf}
-use Rattle.builtins.specs.Program.{cutOf, conditionOf, given, givenOne, valueBy, answerIn}
+use Rattle.moves.specs.Moves.{selectLane}
+use Rattle.builtins.specs.Logical.{selectOf}
+use Rattle.arms.specs.Program.{cutOf, conditionOf, given, givenOne}
+use Rattle.builtins.specs.Program.{valueBy, answerIn}
 use Rattle.builtins.proofs.Chosen.{by-scalar, by-vector}
 
 -- ---- an outcome of one value, as an answer

@@ -15,7 +15,7 @@ use Rattle.values.specs.declared.Size.the-variants.{Three}
 use Rattle.values.specs.declared.Kind.{Kind}
 use Rattle.values.specs.declared.Kind.the-variants.{Empty, One, Vec, Mat}
 use Rattle.values.specs.declared.Value.{Value}
-use Rattle.values.specs.Value.{sizeOf, scalarOf, laneCount, shaped, place, kindAt, lanesOf, lane, value, every, wellFormed}
+use Rattle.values.specs.Value.{sizeOf, scalarOf, laneCount, shaped, place, kindAt, lanesOf, lane, value, every, wellFormed, flag}
 use Rattle.values.specs.Program.{low, four, isLanes}
 use Rattle.values.proofs.Lanes.{few, lanes1, lanes1-as}
 use Rattle.values.proofs.Places.{there}
@@ -24,13 +24,15 @@ use Rattle.numeric.specs.Parts.{parts, joined}
 use Rattle.exponent.specs.Exponent.{fractionLane, exponentLane}
 use Rattle.calls.specs.Table.{Numbers, Only}
 use Rattle.calls.specs.Program.{Passed, PassedCast}
-use Rattle.builtins.specs.Logical.{flag, allOf, anyOf}
+use Rattle.builtins.specs.Logical.{allOf, anyOf}
 use Rattle.builtins.specs.Numeric.{crossOf, dotOf}
 use Rattle.builtins.specs.Exponent.{fractionOf, exponentOf}
 use Rattle.builtins.specs.Bitcast.{bitcastOf}
 use Rattle.builtins.specs.Pack.{filled, word, packed, unpacked}
 use Rattle.builtins.specs.Fold.{answered, answeredTwice}
-use Rattle.builtins.specs.Program.{cutOf, isHalf, recast, given, givenOne, givenTwo, crossFour, fillFour, answerIn}
+use Rattle.moves.specs.Program.{recast}
+use Rattle.arms.specs.Program.{cutOf, isHalf, given, givenOne, givenTwo, crossFour, fillFour}
+use Rattle.builtins.specs.Program.{answerIn}
 use Rattle.builtins.proofs.Casting.{cast-value}
 use Rattle.builtins.proofs.Packed.{value-lanes, packs, uncut}
 use Rattle.builtins.proofs.Products.{cross-is, dot-is}

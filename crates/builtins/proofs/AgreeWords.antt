@@ -13,11 +13,14 @@ use Rattle.calls.specs.Refuse.{refusalOf}
 use Rattle.calls.specs.Words.{callOf}
 use Rattle.calls.specs.Program.{shapeOf, typesOf, judgedIn, First}
 use Rattle.calls.proofs.Converse.{told}
-use Rattle.builtins.specs.declared.Outcome.{Outcome}
+use Rattle.arms.specs.declared.Outcome.{Outcome}
 use Rattle.builtins.specs.Fold.{foldOf}
-use Rattle.builtins.specs.Program.{cutOf, outcome, answerIn}
+use Rattle.arms.specs.Program.{cutOf, outcome}
+use Rattle.builtins.specs.Program.{answerIn}
 use Rattle.builtins.proofs.Agree.{agree}
-use Rattle.builtins.proofs.Called.{lanes-16, first-lanes, passed, folded}
+use Rattle.builtins.proofs.Called.{passed, folded}
+use Rattle.words.proofs.There.{lanes-16}
+use Rattle.calls.proofs.Firsts.{first-lanes}
 use Rattle.builtins.proofs.Outcomes.{Within, passes-as, within}
 
 -- of a call w, what an arm worked out

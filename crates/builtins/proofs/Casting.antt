@@ -20,7 +20,8 @@ use Rattle.values.proofs.Formed.{used-below, whole}
 use Rattle.calls.specs.Table.{Numbers, among, taken}
 use Rattle.calls.specs.Program.{PassedCast}
 use Rattle.builtins.specs.Bitcast.{laneBytes, bytesOf, ofBytes, bitcastOf}
-use Rattle.builtins.specs.Program.{isHalf, halved, paired, pairedLane, recast}
+use Rattle.moves.specs.Program.{halved, paired, pairedLane, recast}
+use Rattle.arms.specs.Program.{isHalf}
 use Rattle.builtins.proofs.Packed.{value-lanes}
 use Rattle.builtins.proofs.Bytes.{below, halves, to-halves, of-halves, lanes-again}
 

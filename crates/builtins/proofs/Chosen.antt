@@ -18,7 +18,8 @@ use Rattle.values.proofs.Formed.{whole}
 use Rattle.values.proofs.Places.{same}
 use Rattle.calls.specs.Table.{Selectable, Anything, Booleans, taken}
 use Rattle.calls.specs.Program.{Passed3}
-use Rattle.builtins.specs.Logical.{selectLane, selectOf}
+use Rattle.moves.specs.Moves.{selectLane}
+use Rattle.builtins.specs.Logical.{selectOf}
 
 spread-out : (x m n : ℕ) (l o : List ℕ) (s : Bool) → eqb x 0 ≡ s → length l ≡ m → length o ≡ m → zip3 selectLane (take n l) o (replicate m x) ≡ take n (cond s l o)
 spread-out x m zero l o s e h g = refl

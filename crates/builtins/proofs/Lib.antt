@@ -11,5 +11,4 @@ pub mod Outcomes
 pub mod Folded
 pub mod Called
 pub mod AgreeWords
-pub mod Transposing
 pub mod Matrices

@@ -24,10 +24,12 @@ use Rattle.calls.proofs.Passed.{ternary}
 use Rattle.builtins.specs.declared.Answer.{Answer}
 use Rattle.builtins.specs.Fold.{answered, foldOf}
 use Rattle.builtins.specs.Logical.{selectOf}
-use Rattle.builtins.specs.Numeric.{transposeOf}
-use Rattle.builtins.proofs.Called.{lanes-16, lane-there, all-there, words-there, first-matrix, passed, folded}
+use Rattle.moves.specs.Moves.{transposeOf}
+use Rattle.builtins.proofs.Called.{passed, folded}
+use Rattle.words.proofs.There.{lanes-16, lane-there, all-there, words-there}
+use Rattle.calls.proofs.Firsts.{first-matrix}
 use Rattle.builtins.proofs.Chosen.{by-scalar, lanes-to-choose}
-use Rattle.builtins.proofs.Transposing.{turned-length}
+use Rattle.moves.proofs.Transposing.{turned-length}
 
 no-lanes : (k : Kind) → matrix k ≡ true → isLanes k ≡ true → ⊥
 no-lanes (Mat c r w) m i = false≢true i

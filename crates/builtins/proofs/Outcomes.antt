@@ -19,8 +19,8 @@ use Rattle.calls.specs.Table.{Numbers, taken, takes}
 use Rattle.calls.specs.Refuse.{judged}
 use Rattle.calls.proofs.Converse.{from-implied}
 use Rattle.calls.proofs.Passed.{cast}
-use Rattle.builtins.specs.declared.Outcome.{Outcome}
-use Rattle.builtins.specs.Program.{outcome}
+use Rattle.arms.specs.declared.Outcome.{Outcome}
+use Rattle.arms.specs.Program.{outcome}
 
 scalar-within : (s : Scalar) → place (One s) ≤ 20
 scalar-within Boolean = omega arith

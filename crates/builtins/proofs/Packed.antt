@@ -22,7 +22,7 @@ use Rattle.numeric.specs.Parts.{joined}
 use Rattle.calls.specs.Table.{Only}
 use Rattle.calls.specs.Program.{Passed}
 use Rattle.builtins.specs.Pack.{word, packed}
-use Rattle.builtins.specs.Program.{cutOf}
+use Rattle.arms.specs.Program.{cutOf}
 
 pub value-lanes : (k : Kind) (xs : List ℕ) → length xs ≡ laneCount k → lanesOf (value k xs) ≡ xs
 unfolding value

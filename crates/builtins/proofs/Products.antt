@@ -15,7 +15,7 @@ use Rattle.values.proofs.Formed.{lane-narrow}
 use Rattle.products.specs.Products.{dotLane}
 use Rattle.products.proofs.Summed.{dot-uncut}
 use Rattle.builtins.specs.Numeric.{crossOf, dotOf}
-use Rattle.builtins.specs.Program.{cutOf, crossFour}
+use Rattle.arms.specs.Program.{cutOf, crossFour}
 
 uncut : (v : Value) → wellFormed v ≡ true → (i : ℕ) → low (lane v i) ≡ lane v i
 uncut v w i = mod-eq-of-lt (lane-narrow v w i)

@@ -16,7 +16,8 @@ use Rattle.values.specs.Value.{scalarOf, emptyValue, lanewise, lanewise2, lanew
 use Rattle.builtins.specs.Logical.{allOf, anyOf, selectOf}
 use Rattle.numeric.specs.Numeric.{absLane, signLane, leadingLane, onesLane, trailingLane}
 use Rattle.limits.specs.Limits.{minLane, maxLane, clampLane, saturateLane, stepLane}
-use Rattle.builtins.specs.Numeric.{crossOf, dotOf, transposeOf}
+use Rattle.moves.specs.Moves.{transposeOf}
+use Rattle.builtins.specs.Numeric.{crossOf, dotOf}
 use Rattle.exponent.specs.Exponent.{ldexpLane}
 use Rattle.packing.specs.Lanes.{lowByte, extended, plain}
 use Rattle.builtins.specs.Exponent.{fractionOf, exponentOf}

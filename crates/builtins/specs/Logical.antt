@@ -1,17 +1,13 @@
 -- all, any and select. Definitions only.
-use Prim.Native.Nat.{ℕ}
-use mathlib.Core.Bool.{Bool, not, cond}
+use mathlib.Core.Bool.{not, cond}
 use mathlib.Core.List.{[], _∷_}
 use lib.Dec.{eqb}
 use lib.ListN.{replicate}
 use Rattle.values.specs.declared.Scalar.the-variants.{Boolean}
 use Rattle.values.specs.declared.Kind.the-variants.{One}
 use Rattle.values.specs.declared.Value.{Value}
-use Rattle.values.specs.Value.{sameKind, lanesOf, lane, value, every, lanewise3}
-
--- a bool as a lane
-abbrev pub flag : Bool → ℕ
-flag b = cond b 1 0
+use Rattle.moves.specs.Moves.{selectLane}
+use Rattle.values.specs.Value.{sameKind, lanesOf, lane, value, flag, every, lanewise3}
 
 -- "all or any of a scalar is that scalar"
 unfoldable pub allOf : Value → Value
@@ -25,8 +21,5 @@ abbrev pub spread : Value → Value
 spread c = cond (sameKind (c .kind) (One Boolean)) (record { kind = c .kind; lanes = replicate 16 (lane c 0) }) c
 
 -- select(f, t, cond): t where the condition is true
-abbrev pub selectLane : ℕ → ℕ → ℕ → ℕ
-selectLane f t c = cond (eqb c 0) f t
-
 unfoldable pub selectOf : Value → Value → Value → Value
 selectOf f t c = lanewise3 selectLane f t (spread c)

@@ -3,3 +3,4 @@ pub mod Converse
 pub mod Passed
 pub mod Matrices
 pub mod CallWords
+pub mod Firsts

@@ -16,7 +16,7 @@ use Rattle.words.proofs.There.{said}
 use Rattle.calls.specs.Words.{callOf}
 use Rattle.builtins.specs.Fold.{foldOf}
 use Rattle.builtins.specs.Words.{answerOf, refusalIn, writtenIn}
-use Rattle.builtins.proofs.Called.{lanes-16}
+use Rattle.words.proofs.There.{lanes-16}
 use Rattle.formed.specs.Answers.{AnswerFormed, Held}
 use Rattle.formed.proofs.Answered.{answers-formed}
 

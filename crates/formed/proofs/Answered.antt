@@ -14,7 +14,7 @@ use Rattle.values.specs.declared.Size.the-variants.{Two, Three, Four}
 use Rattle.values.specs.declared.Kind.{Kind}
 use Rattle.values.specs.declared.Kind.the-variants.{One, Vec}
 use Rattle.values.specs.declared.Value.{Value}
-use Rattle.values.specs.Value.{scalarOf, sameKind, lanesOf, lane, value, every, lanewise, lanewise2, lanewise3, Formed}
+use Rattle.values.specs.Value.{scalarOf, sameKind, lanesOf, lane, value, every, lanewise, lanewise2, lanewise3, Formed, flag}
 use Rattle.values.specs.Program.{isLanes}
 use Rattle.values.proofs.Bools.{both, and}
 use Rattle.values.proofs.Places.{same}
@@ -31,8 +31,9 @@ use Rattle.exponent.specs.Exponent.{fractionLane, exponentLane, ldexpLane}
 use Rattle.exponent.proofs.Bounds.{fraction-lane-below, exponent-lane-below, ldexp-lane-below}
 use Rattle.builtins.specs.Exponent.{fractionOf, exponentOf}
 use Rattle.formats.specs.Formats.{x8snorm, x8unorm, xI8, xU8, x16snorm, x16unorm, x16float}
-use Rattle.builtins.specs.Logical.{flag, allOf, anyOf, selectLane, selectOf}
-use Rattle.builtins.specs.Numeric.{crossOf, dotOf, transposeOf}
+use Rattle.moves.specs.Moves.{selectLane, transposeOf}
+use Rattle.builtins.specs.Logical.{allOf, anyOf, selectOf}
+use Rattle.builtins.specs.Numeric.{crossOf, dotOf}
 use Rattle.builtins.specs.Fold.{answered, answeredTwice, answerBy}
 use Rattle.builtins.proofs.Folded.{folds, unrefused}
 use Rattle.builtins.proofs.Chosen.{by-scalar, by-vector, lanes-to-choose}

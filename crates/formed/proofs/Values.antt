@@ -28,11 +28,11 @@ use Rattle.numeric.specs.Parts.{parts, joined}
 use Rattle.calls.specs.Table.{Numbers, Only, taken}
 use Rattle.calls.specs.Program.{Passed}
 use Rattle.builtins.specs.Bitcast.{laneBytes, bytesOf, ofBytes, bitcastOf}
-use Rattle.builtins.specs.Numeric.{upTo, transposed}
+use Rattle.moves.specs.Moves.{upTo, transposed}
 use Rattle.builtins.specs.Pack.{filling, filled, word, packed, unpacked}
 use Rattle.builtins.proofs.Bytes.{below}
 use Rattle.builtins.proofs.Parts.{length-parts}
-use Rattle.builtins.proofs.Transposing.{mapped-length}
+use Rattle.moves.proofs.Transposing.{mapped-length}
 use Rattle.formats.proofs.Codes.{parts-below}
 use Rattle.formats.proofs.LaneLaws.{Coding, Laws}
 use Rattle.formed.proofs.Bytes.{below-split, bytes-below, lanes-length}

@@ -15,7 +15,7 @@ use Rattle.buffers.specs.Memory.{put}
 use Rattle.buffers.proofs.Puts.{Made, both-made, put-nil, given-refused, given-short, given-room}
 use Rattle.words.specs.Words.{valueAt}
 use Rattle.words.proofs.Tables.{typed}
-use Rattle.builtins.proofs.Called.{lanes-16}
+use Rattle.words.proofs.There.{lanes-16}
 use Rattle.spelling.specs.Write.{textOf, textLength}
 use Rattle.spelling.proofs.Texts.{text-16, at-most-155}
 use Rattle.lines.specs.Fields.{tab}

@@ -1,6 +1,6 @@
 -- Values, and when one is well formed: 01, "Values and builtins taken". Definitions only.
 use Prim.Native.Nat.{ℕ, _+_, _-_, _*_, _^_}
-use mathlib.Core.Bool.{Bool, true, false, _&&_}
+use mathlib.Core.Bool.{Bool, true, false, _&&_, cond}
 use mathlib.Core.List.{List, [], _∷_, _++_, map}
 use mathlib.Core.Path.{_≡_}
 use lib.Dec.{ltb, eqb}
@@ -125,6 +125,10 @@ value k xs = record { kind = k; lanes = xs ++ replicate (16 - length xs) 0 }
 -- "The empty value has no type and only zero lanes."
 unfoldable pub emptyValue : Value
 emptyValue = record { kind = Empty; lanes = replicate 16 0 }
+
+-- a bool as a lane
+abbrev pub flag : Bool → ℕ
+flag b = cond b 1 0
 
 abbrev pub every : (ℕ → Bool) → List ℕ → Bool
 every p [] = true

@@ -1,21 +1,22 @@
 -- Values where they stand: what is missing is the empty value, the check goes part by part, and a value is read again out of its own words. Assumes nothing.
-use Prim.Native.Nat.{ℕ, _+_, _^_, _≤_, _<_}
-use mathlib.Core.Bool.{Bool, not, _&&_, and-true, and-false}
+use Prim.Native.Nat.{ℕ, suc, _+_, _^_, _≤_, _<_}
+use mathlib.Core.Bool.{Bool, true, false, not, _&&_, and-true, and-false, false≢true}
 use mathlib.Core.Logic.{inl, inr}
 use mathlib.Core.List.{List, _++_, append-assoc}
 use mathlib.Core.Path.{_≡_, refl, ap, sym, _∙_}
+use native.Mathlib.Numerals.{add-one}
 use native.Mathlib.Omega.{arith}
 use borrow.Author.Tests.{lt-leb, le-leb, ltb-true, ltb-false, eqb-true, eqb-false, eq-eqb, ne-eqb}
 use lib.Dec.{eqb, ltb}
-use lib.ListN.{length, take, drop, getD, length-append}
-use lib.Seq.{take-at, drop-append-add, getD-append-seam, length-take-le}
+use lib.ListN.{length, take, drop, getD, length-append, length-take, length-drop}
+use lib.Seq.{take-at, drop-append-add, getD-append-seam, length-take-le, drop-cons, getD-take, getD-drop}
 use Rattle.values.specs.declared.Value.{Value}
 use Rattle.values.specs.declared.Kind.{Kind}
-use Rattle.values.specs.Value.{laneBits, scalarOf, laneCount, place, kindAt, emptyValue, every, wellFormed}
+use Rattle.values.specs.Value.{laneBits, scalarOf, laneCount, isType, place, kindAt, emptyValue, lane, every, wellFormed}
 use Rattle.values.specs.Program.{low, four}
 use Rattle.values.proofs.Bools.{either}
 use Rattle.values.proofs.Few.{entries, entries-are}
-use Rattle.values.proofs.Formed.{judged}
+use Rattle.values.proofs.Formed.{judged, is-type, empty-not-formed}
 use Rattle.values.proofs.Places as Places
 use Rattle.buffers.specs.Memory.{put}
 use Rattle.words.specs.Words.{valueAt, wordsOf}
@@ -70,6 +71,49 @@ module _ (w : List ℕ) (at : ℕ) where
             rw (t, kind ∙ k, eq-eqb p p refl) (f ∙ sym (and-true (wellFormed (valueAt w at))))
         | inr t ↦ rw (t, kind, ne-eqb _ p (other-place z l (eqb-false _ p t))) (sym (and-false (wellFormed (valueAt w at))))
       ]
+
+  -- ---- a value that stands there
+
+  pub lanes-16 : length (valueAt w at .lanes) ≡ 16
+  unfolding emptyValue
+  lanes-16 =
+      elim (either (ltb (length w) (at + 17))) [
+        | inl l ↦ rw (not-there (ltb-true (length w) (at + 17) l))
+        | inr g ↦ let h = ltb-false (length w) (at + 17) g in rw (there h) (simp (length-take, length-drop) (omega arith))
+      ]
+
+  pub lane-there : at + 17 ≤ length w → (i : ℕ) → i < 16 → lane (valueAt w at) i ≡ getD w (at + 1 + i) 0
+  lane-there h i l = rw (there h) (getD-take 16 (drop (at + 1) w) i 0 l ∙ getD-drop (at + 1) w i 0)
+
+  module _ (f : wellFormed (valueAt w at) ≡ true) where
+    pub all-there : at + 17 ≤ length w
+    all-there =
+        elim (either (ltb (length w) (at + 17))) [
+          | inl l ↦
+            let e : wellFormed (valueAt w at) ≡ false = rw (not-there (ltb-true (length w) (at + 17) l), empty-not-formed) in
+            absurd (false≢true (sym e ∙ f))
+          | inr g ↦ ltb-false (length w) (at + 17) g
+        ]
+
+    kind-there : valueAt w at .kind ≡ kindAt (getD w at 0)
+    kind-there = rw (there all-there)
+
+    pub known-there : getD w at 0 < 39
+    known-there =
+        elim (either (ltb (getD w at 0) 39)) [
+          | inl l ↦ ltb-true _ _ l
+          | inr g ↦ absurd (false≢true (sym (ap isType (kind-there ∙ Places.none-past (getD w at 0) (ltb-false _ _ g))) ∙ is-type (valueAt w at) f))
+        ]
+
+    pub place-there : getD w at 0 ≡ place (valueAt w at .kind)
+    place-there = sym (ap place kind-there ∙ own-place (getD w at 0) known-there)
+
+    -- its words
+    pub words-there : take 17 (drop at w) ≡ wordsOf (valueAt w at)
+    words-there =
+        let h = all-there in
+        let e : valueAt w at .lanes ≡ take 16 (drop (suc at) w) = rw (there h, add-one at) in
+        rw (drop-cons w at 0 (omega arith)) (cc (place-there, e))
 
 -- a value's words, with others around them, say that value
 pub said : {w : List ℕ} {at : ℕ} (before after : List ℕ) (v : Value) → length (v .lanes) ≡ 16 → w ≡ before ++ (wordsOf v ++ after) → at ≡ length before → valueAt w at ≡ v

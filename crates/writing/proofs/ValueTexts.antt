@@ -28,19 +28,8 @@ module _ (w : List ℕ) (from : ℕ) where
   abbrev value : Value
   value = valueAt w from
 
-  -- a value has 16 lanes, whether its words are there or not
-  lanes-16 : length (value .lanes) ≡ 16
-  unfolding emptyValue
-  lanes-16 = by (leb (from + 17) (length w)) refl
-    where
-      by : (on : Bool) → leb (from + 17) (length w) ≡ on → length (value .lanes) ≡ 16
-      by true e =
-          let h = leb-true (from + 17) (length w) e in
-          rw (There.there w from h) (length-take-le 16 (drop (from + 1) w) (omega (arith, length-drop (from + 1) w)))
-      by false e = rw (There.not-there w from (leb-false (from + 17) (length w) e))
-
   pub length-by-place : {p : ℕ} → p ≡ place (value .kind) → length (textOf value) ≡ textLength (kindAt p)
-  length-by-place e = text-16 value lanes-16 ∙ ap textLength (placed (sym e))
+  length-by-place e = text-16 value (There.lanes-16 w from) ∙ ap textLength (placed (sym e))
 
   -- a type's words are all there
   pub words-there : 0 < place (value .kind) → from + 17 ≤ length w

@@ -16,7 +16,7 @@ use Rattle.words.proofs.Tables.{typed}
 use Rattle.calls.specs.Program.{First}
 use Rattle.calls.proofs.Converse.{unformed}
 use Rattle.builtins.proofs.AgreeWords.{Worked, worked}
-use Rattle.builtins.proofs.Called.{all-there}
+use Rattle.words.proofs.There.{all-there}
 use Rattle.builtins.proofs.Folded.{told-refused, told-answer}
 use borrow.Author.Needs.{needs}
 use Rattle.builtins.proofs.fold.Statement.{statement}

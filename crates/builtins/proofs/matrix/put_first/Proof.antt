@@ -1,7 +1,7 @@
 -- A call of a matrix that is not refused is of select or of transpose. Assumes nothing.
 use mathlib.Core.Path.{ap, _∙_}
 use Rattle.buffers.specs.Memory.{put}
-use Rattle.builtins.proofs.Called.{all-there}
+use Rattle.words.proofs.There.{all-there}
 use Rattle.builtins.proofs.Matrices.{third-there, selected-words, other-words}
 use borrow.Author.Needs.{needs}
 use Rattle.builtins.proofs.matrix.put_first.Statement.{statement}

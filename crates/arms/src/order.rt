@@ -1,0 +1,70 @@
+// min, max, clamp, saturate and step: the lanes are the crate numeric's.
+use crate::Outcome;
+use calls::Builtin;
+use calls::table::Shape;
+ghost use mathlib.Core.Path.{_≡_};
+ghost use lib.Dec.{eqb};
+ghost use Rattle.values.specs.Value.{emptyValue};
+ghost use Rattle.words.specs.Words.{valueAt};
+ghost use Rattle.calls.specs.Program.{judgedIn, First};
+ghost use Rattle.arms.specs.Program.{outcome};
+
+pub fn min(w: &[u64], n: u64, p: u64, set: u64, x: [u32; 4]) -> Outcome
+    requires { ⌜ First (now w) p ⌝ }
+    ensures { λ r. ⌜ r ≡ outcome Builtin.Min (eqb (judgedIn Shape.TwoAlike set n (now (w .entry))) 0) 0 p x (valueAt (now (w .entry)) 20) (valueAt (now (w .entry)) 37) ⌝ }
+{
+    crate::given(
+        calls::tests::two_alike(w, n, p, set),
+        p,
+        limits::min(words::types::scalar_at(p), x, words::cut_at(w, 20)),
+    )
+}
+
+pub fn max(w: &[u64], n: u64, p: u64, set: u64, x: [u32; 4]) -> Outcome
+    requires { ⌜ First (now w) p ⌝ }
+    ensures { λ r. ⌜ r ≡ outcome Builtin.Max (eqb (judgedIn Shape.TwoAlike set n (now (w .entry))) 0) 0 p x (valueAt (now (w .entry)) 20) (valueAt (now (w .entry)) 37) ⌝ }
+{
+    crate::given(
+        calls::tests::two_alike(w, n, p, set),
+        p,
+        limits::max(words::types::scalar_at(p), x, words::cut_at(w, 20)),
+    )
+}
+
+pub fn clamp(w: &[u64], n: u64, p: u64, set: u64, x: [u32; 4]) -> Outcome
+    requires { ⌜ First (now w) p ⌝ }
+    ensures { λ r. ⌜ r ≡ outcome Builtin.Clamp (eqb (judgedIn Shape.ThreeAlike set n (now (w .entry))) 0) 0 p x (valueAt (now (w .entry)) 20) (valueAt (now (w .entry)) 37) ⌝ }
+{
+    crate::given(
+        calls::tests::three_alike(w, n, p, set),
+        p,
+        limits::clamp(
+            words::types::scalar_at(p),
+            x,
+            words::cut_at(w, 20),
+            words::cut_at(w, 37),
+        ),
+    )
+}
+
+pub fn saturate(w: &[u64], n: u64, p: u64, set: u64, x: [u32; 4]) -> Outcome
+    requires { ⌜ First (now w) p ⌝ }
+    ensures { λ r. ⌜ r ≡ outcome Builtin.Saturate (eqb (judgedIn Shape.OneValue set n (now (w .entry))) 0) 0 p x emptyValue emptyValue ⌝ }
+{
+    crate::given(
+        calls::tests::one_value(w, n, p, set),
+        p,
+        limits::saturate(x),
+    )
+}
+
+pub fn step(w: &[u64], n: u64, p: u64, set: u64, x: [u32; 4]) -> Outcome
+    requires { ⌜ First (now w) p ⌝ }
+    ensures { λ r. ⌜ r ≡ outcome Builtin.Step (eqb (judgedIn Shape.TwoAlike set n (now (w .entry))) 0) 0 p x (valueAt (now (w .entry)) 20) (valueAt (now (w .entry)) 37) ⌝ }
+{
+    crate::given(
+        calls::tests::two_alike(w, n, p, set),
+        p,
+        limits::step(words::types::scalar_at(p), x, words::cut_at(w, 20)),
+    )
+}

@@ -1,0 +1,36 @@
+// frexp and ldexp: the lanes are the crate exponent's.
+use crate::Outcome;
+use calls::Builtin;
+use calls::table::Shape;
+ghost use mathlib.Core.Path.{_≡_};
+ghost use lib.Dec.{eqb};
+ghost use Rattle.values.specs.Value.{emptyValue};
+ghost use Rattle.words.specs.Words.{valueAt};
+ghost use Rattle.calls.specs.Table.{takes};
+ghost use Rattle.calls.specs.Program.{typesOf, judgedIn, First};
+ghost use Rattle.arms.specs.Program.{outcome};
+
+pub fn frexp(w: &[u64], n: u64, p: u64, set: u64, x: [u32; 4]) -> Outcome
+    requires { ⌜ First (now w) p ⌝ }
+    ensures { λ r. ⌜ r ≡ outcome Builtin.Frexp (eqb (judgedIn Shape.OneValue set n (now (w .entry))) 0) 0 p x emptyValue emptyValue ⌝ }
+{
+    let s = words::types::scalar_at(p);
+    crate::given_two(
+        calls::tests::one_value(w, n, p, set),
+        p,
+        exponent::fraction(s, x),
+        words::types::integers_at(p),
+        exponent::exponent(s, x),
+    )
+}
+
+pub fn ldexp(w: &[u64], n: u64, p: u64, set: u64, x: [u32; 4]) -> Outcome
+    requires { ⌜ First (now w) p × (set ≡ typesOf (takes Builtin.Ldexp)) ⌝ }
+    ensures { λ r. ⌜ r ≡ outcome Builtin.Ldexp (eqb (judgedIn Shape.Scaling set n (now (w .entry))) 0) 0 p x (valueAt (now (w .entry)) 20) (valueAt (now (w .entry)) 37) ⌝ }
+{
+    crate::given(
+        calls::tests::scaling(w, n, p, set),
+        p,
+        exponent::ldexp(x, words::cut_at(w, 20)),
+    )
+}
