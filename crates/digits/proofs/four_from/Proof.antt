@@ -1,0 +1,16 @@
+-- What is chosen, and between what. Assumes nothing.
+use borrow.Author.Needs.{needs}
+use Rattle.digits.proofs.four_from.Statement.{statement}
+use Rattle.digits.proofs.four_from.Tie as tie
+
+returns : tie.Need-returns
+returns c = cc
+
+pub four-from-spec : {M : Type 1} → statement M
+four-from-spec =
+    tie.close
+    (tie.spec
+    (λ c κs. search needs)
+    (λ c κs. search needs)
+    (λ c κs. search needs)
+    returns)
