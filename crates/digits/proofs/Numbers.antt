@@ -3,7 +3,7 @@ use Prim.Native.Nat.{ℕ, zero, suc, _+_, _*_, _/_, _%_, _<_, _≤_, _^_}
 use mathlib.Core.Bool.{true, _&&_, and-true}
 use mathlib.Core.List.{List, [], _∷_, _++_}
 use mathlib.Core.Path.{_≡_, refl, ap, _∙_}
-use native.Mathlib.Nat.{add-mul, mul-assoc, pow-succ', mod-lt}
+use native.Mathlib.Nat.{add-zero, add-mul, mul-assoc, pow-succ', mod-lt}
 use native.Mathlib.Omega.{arith}
 use borrow.Author.Tests.{lt-ltb}
 use lib.Dec.{ltb}
@@ -17,6 +17,13 @@ use Rattle.spelling.proofs.Hexes.{digit-byte, no-digits, hex-front, hex-none, d
 pub digits-more : (b : ℕ) (s : List ℕ) (i n : ℕ) → i + n < length s
     → digitsBelow b (take (suc n) (drop i s)) ≡ digitsBelow b (take n (drop i s)) && ltb (digitOf (getD s (i + n) 0)) b
 digits-more b s i n h = rw (take-suc (drop i s) n 0 (omega (arith, length-drop i s)), every-append, getD-drop, and-true)
+
+-- four of them
+pub digits-four : (b : ℕ) (s : List ℕ) (i : ℕ) → i + 4 ≤ length s
+    → digitsBelow b (take 4 (drop i s))
+    ≡ ltb (digitOf (getD s i 0)) b && ltb (digitOf (getD s (i + 1) 0)) b && ltb (digitOf (getD s (i + 2) 0)) b && ltb (digitOf (getD s (i + 3) 0)) b
+digits-four b s i h =
+    rw (digits-more b s i 3 (omega arith), digits-more b s i 2 (omega arith), digits-more b s i 1 (omega arith), digits-more b s i 0 (omega arith), add-zero)
 
 -- two parts of digits
 pub digits-parts : (b : ℕ) (s : List ℕ) (i n m : ℕ)
@@ -32,6 +39,13 @@ number-append v (x ∷ xs) ys = number-append (v * 16 + digitOf x) xs ys
 pub number-more : (s : List ℕ) (i n : ℕ) → i + n < length s → number 0 (take (suc n) (drop i s)) ≡ number 0 (take n (drop i s)) * 16 + digitOf (getD s (i + n) 0)
 unfolding number
 number-more s i n h = rw (take-suc (drop i s) n 0 (omega (arith, length-drop i s)), number-append, getD-drop)
+
+-- four of them
+pub number-four : (s : List ℕ) (i : ℕ) → i + 4 ≤ length s
+    → number 0 (take 4 (drop i s)) ≡ digitOf (getD s i 0) * 4096 + digitOf (getD s (i + 1) 0) * 256 + digitOf (getD s (i + 2) 0) * 16 + digitOf (getD s (i + 3) 0)
+unfolding number
+number-four s i h =
+    rw (number-more s i 3 (omega arith), number-more s i 2 (omega arith), number-more s i 1 (omega arith), number-more s i 0 (omega arith), add-zero) (omega arith)
 
 -- what stands before, shifted
 number-after : (v : ℕ) (xs : List ℕ) → number v xs ≡ v * 16 ^ length xs + number 0 xs

@@ -3,30 +3,32 @@ use values::Scalar;
 use words::types::choose;
 ghost use mathlib.Core.Path.{_≡_};
 ghost use Prim.Native.Nat.{_+_, _*_, _^_, _≤_, _<_};
-ghost use lib.ListN.{length, take, drop};
+ghost use lib.ListN.{length, take, drop, getD};
 ghost use Rattle.buffers.specs.Text.{byte};
 ghost use Rattle.buffers.specs.Memory.{put};
-ghost use Rattle.spelling.specs.Hex.{digitCount, digitBound, digitsBelow, number, DigitTable};
+ghost use Rattle.spelling.specs.Hex.{digitCount, digitBound, digitOf, digitsBelow, number, DigitTable};
 ghost use Rattle.digits.specs.Program.{laneFrom, laneAfter, lanesFrom};
 
 // A number that no lane is.
 const NO_LANE: u64 = 0x1_0000_0000;
+
+// The digit that the byte at i spells, 16 where it spells none.
+fn digit_at(table: &[u8; 256], t: &[u8], i: usize) -> u64
+    requires { ⌜ DigitTable (now table) × (i < length (now t)) ⌝ }
+    ensures { λ r. ⌜ (r ≡ digitOf (getD (now (t .entry)) i 0)) × (r ≤ 16) ⌝ }
+{
+    spelling::digit(table, t[i]) as u64
+}
 
 // Whether four bytes from i on spell digits, all tested as one.
 fn four_digits(table: &[u8; 256], t: &[u8], i: usize) -> bool
     requires { ⌜ DigitTable (now table) × (i + 4 ≤ length (now t)) ⌝ }
     ensures { λ r. ⌜ r ≡ digitsBelow 16 (take 4 (drop i (now (t .entry)))) ⌝ }
 {
-    (spelling::digit(table, t[i]) < 16)
-        & (spelling::digit(table, t[i + 1]) < 16)
-        & (spelling::digit(table, t[i + 2]) < 16)
-        & (spelling::digit(table, t[i + 3]) < 16)
-}
-
-fn wide(x: u8) -> u64
-    ensures { λ r. ⌜ r ≡ x ⌝ }
-{
-    x as u64
+    (digit_at(table, t, i) < 16)
+        & (digit_at(table, t, i + 1) < 16)
+        & (digit_at(table, t, i + 2) < 16)
+        & (digit_at(table, t, i + 3) < 16)
 }
 
 // The number that four digits from i on spell.
@@ -34,10 +36,10 @@ fn four_value(table: &[u8; 256], t: &[u8], i: usize) -> u64
     requires { ⌜ DigitTable (now table) × (i + 4 ≤ length (now t)) ⌝ }
     ensures { λ r. ⌜ (r ≡ number 0 (take 4 (drop i (now (t .entry))))) × (r < 2 ^ 17) ⌝ }
 {
-    wide(spelling::digit(table, t[i])) * 4096
-        + wide(spelling::digit(table, t[i + 1])) * 256
-        + wide(spelling::digit(table, t[i + 2])) * 16
-        + wide(spelling::digit(table, t[i + 3]))
+    digit_at(table, t, i) * 4096
+        + digit_at(table, t, i + 1) * 256
+        + digit_at(table, t, i + 2) * 16
+        + digit_at(table, t, i + 3)
 }
 
 // Lanes of eight digits, of four and of one.
@@ -64,8 +66,8 @@ fn one_from(table: &[u8; 256], t: &[u8], i: usize) -> u64
     requires { ⌜ DigitTable (now table) × (i + 1 ≤ length (now t)) ⌝ }
     ensures { λ r. ⌜ r ≡ laneFrom 2 1 (now (t .entry)) i ⌝ }
 {
-    let d = spelling::digit(table, t[i]);
-    choose(d < 2, wide(d), NO_LANE)
+    let d = digit_at(table, t, i);
+    choose(d < 2, d, NO_LANE)
 }
 
 // The lane that is spelled from i on, 2^32 where none is.

@@ -27,7 +27,7 @@ use Rattle.typenames.specs.Program.{scalarBy, scalarWidth, sizeBy, vecto
 -- ---- complete
 
 pub complete : (k : Kind) (r : List ℕ) → isType k ≡ true → typeFrom (spelled k ++ r) ≡ place k
-unfolding typeFrom
+unfolding typeFrom scalarBy sizeBy
 complete k r t = eqb-true _ _ (rw t at (each (λ l. cond (isType l) (eqb (typeFrom (spelled l ++ r)) (place l)) true) refl k))
 
 -- ---- bytes that stand in a text
@@ -78,7 +78,7 @@ module _ (t : List ℕ) (i : ℕ) where
   Scalars p = (p ≤ 5) × (0 < p → stands (spelled (kindAt p)) t i ≡ true)
 
   pub scalar-right : Scalars (scalarBy (getD t i 0) (getD t (suc i) 0) (getD t (suc (suc i)) 0) (getD t (suc (suc (suc i))) 0))
-  unfolding kindAt
+  unfolding kindAt scalarBy
   scalar-right =
       chosen Scalars _ 1 _ (λ e. (omega arith, λ _. rw and-true e))
       (chosen Scalars _ 2 _ (λ e. (omega arith, λ _. rw and-true e))
@@ -92,6 +92,7 @@ module _ (x : ℕ) where
   Sizes n = (n ≤ 3) × (0 < n → x ≡ byte "1" + n)
 
   pub size-right : Sizes (sizeBy x)
+  unfolding sizeBy
   size-right =
       chosen Sizes (eqb x (byte "2")) 1 _ (λ e. (omega arith, λ _. eqb-true _ _ e))
       (chosen Sizes (eqb x (byte "3")) 2 _ (λ e. (omega arith, λ _. eqb-true _ _ e))

@@ -7,7 +7,7 @@ use lib.ListN.{getD}
 use Rattle.buffers.specs.Text.{byte}
 
 -- the place of the scalar that four bytes spell, or the first three, 0 of none
-abbrev pub scalarBy : ℕ → ℕ → ℕ → ℕ → ℕ
+unfoldable pub scalarBy : ℕ → ℕ → ℕ → ℕ → ℕ
 scalarBy x y z w =
     cond (eqb x (byte "b") && (eqb y (byte "o") && (eqb z (byte "o") && eqb w (byte "l")))) 1
     (cond (eqb x (byte "i") && (eqb y (byte "3") && eqb z (byte "2"))) 2
@@ -20,7 +20,7 @@ abbrev pub scalarWidth : ℕ → ℕ
 scalarWidth p = cond (eqb p 1) 4 3
 
 -- a size less 1 of the byte that spells it, 0 of none
-abbrev pub sizeBy : ℕ → ℕ
+unfoldable pub sizeBy : ℕ → ℕ
 sizeBy x = cond (eqb x (byte "2")) 1 (cond (eqb x (byte "3")) 2 (cond (eqb x (byte "4")) 3 0))
 
 -- the place of the vector that a text spells after its first byte, 0 of none, where n is its size and p its scalar

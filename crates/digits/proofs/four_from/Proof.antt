@@ -4,7 +4,8 @@ use Rattle.digits.proofs.four_from.Statement.{statement}
 use Rattle.digits.proofs.four_from.Tie as tie
 
 returns : tie.Need-returns
-returns c = cc
+returns c =
+    rw (c .choose .ensures, c .before .four-value .ensures .0, c .before .before .four-digits .ensures)
 
 pub four-from-spec : {M : Type 1} → statement M
 four-from-spec =

@@ -10,15 +10,13 @@ use Rattle.digits.proofs.one_from.Tie as tie
 returns : tie.Need-returns
 unfolding number
 returns c =
-    let a = c .before .before .before .before .before .args in
-    rw (digits-more 2 (a .t .now) (a .i) 0 (omega arith), number-more (a .t .now) (a .i) 0 (omega arith), add-zero, zero-add) cc
+    let a = c .before .before .before .args in
+    rw (c .choose .ensures, c .before .digit-at .ensures .0, digits-more 2 (a .t .now) (a .i) 0 (omega arith), number-more (a .t .now) (a .i) 0 (omega arith), add-zero, zero-add)
 
 pub one-from-spec : {M : Type 1} → statement M
 one-from-spec =
     tie.close
     (tie.spec
-    (λ c. search needs)
-    (λ c κs. search needs)
     (λ c κs. search needs)
     (λ c κs. search needs)
     returns)

@@ -8,6 +8,7 @@ use Rattle.typenames.proofs.scalar_by.Statement.{statement}
 use Rattle.typenames.proofs.scalar_by.Tie as tie
 
 returns : tie.Need-returns
+unfolding scalarBy
 returns c =
     let a = c .before .before .before .before .before .args in
     let e : c .choose5 .result ≡ scalarBy (a .x) (a .y) (a .z) (a .w) = rw (c .choose5 .ensures, c .before .choose4 .ensures, c .before .before .choose3 .ensures, c .before .before .before .choose2 .ensures, c .before .before .before .before .choose .ensures) in

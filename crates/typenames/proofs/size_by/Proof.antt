@@ -7,6 +7,7 @@ use Rattle.typenames.proofs.size_by.Statement.{statement}
 use Rattle.typenames.proofs.size_by.Tie as tie
 
 returns : tie.Need-returns
+unfolding sizeBy
 returns c =
     let x = c .before .before .before .args .x in
     let e : c .choose3 .result ≡ sizeBy x = rw (c .choose3 .ensures, c .before .choose2 .ensures, c .before .before .choose .ensures) in
