@@ -7,8 +7,8 @@ use mathlib.Core.Path.{_≡_, sym, _∙_}
 use Rattle.buffers.specs.Memory.{put}
 use Rattle.buffers.proofs.Puts.{put-cons, put-set}
 use borrow.Author.Needs.{needs}
-use Rattle.writing.proofs.put_three.Statement.{statement}
-use Rattle.writing.proofs.put_three.Tie as tie
+use Rattle.typetexts.proofs.put_three.Statement.{statement}
+use Rattle.typetexts.proofs.put_three.Tie as tie
 
 three : (o : List ℕ) (at x y z : ℕ) → at + 3 ≤ length o → set (set (set o at x) (at + 1) y) (at + 2) z ≡ put o at (x ∷ y ∷ z ∷ [])
 three o at x y z h =

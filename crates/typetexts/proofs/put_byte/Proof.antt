@@ -1,8 +1,8 @@
 -- One entry set is a write of one byte. Assumes nothing.
 use Rattle.buffers.proofs.Puts.{put-set}
 use borrow.Author.Needs.{needs}
-use Rattle.writing.proofs.put_byte.Statement.{statement}
-use Rattle.writing.proofs.put_byte.Tie as tie
+use Rattle.typetexts.proofs.put_byte.Statement.{statement}
+use Rattle.typetexts.proofs.put_byte.Tie as tie
 
 slice-write-out : tie.Need-slice-write-out
 slice-write-out c = search needs

@@ -8,9 +8,9 @@ use lib.Seq.{length-take-le, getD-take}
 use Rattle.buffers.specs.Memory.{put}
 use Rattle.spelling.specs.Write.{lanesText}
 use Rattle.buffers.proofs.Puts.{put-nil}
-use Rattle.writing.proofs.LanePuts.{lane-room, lane-put, lanes-end}
-use Rattle.writing.proofs.put_lanes.Statement.{statement}
-use Rattle.writing.proofs.put_lanes.Tie as tie
+use Rattle.lanetexts.proofs.LanePuts.{lane-room, lane-put, lanes-end}
+use Rattle.lanetexts.proofs.put_lanes.Statement.{statement}
+use Rattle.lanetexts.proofs.put_lanes.Tie as tie
 
 abbrev Inv-loop : tie.InvT-loop
 Inv-loop out₀ at n w lanes next₀ before₀ k₀ out next before k =

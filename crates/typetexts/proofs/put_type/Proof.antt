@@ -1,9 +1,9 @@
 -- A scalar's text stands alone; a vector's and a matrix's are three writes that are one, as `vector-written` and `matrix-written` say. Assumes nothing.
 use native.Mathlib.Omega.{arith}
-use Rattle.writing.proofs.TypeTexts.{scalar-text, vector-length, vector-written, matrix-length, matrix-written}
+use Rattle.typetexts.proofs.TypeTexts.{scalar-text, vector-length, vector-written, matrix-length, matrix-written}
 use borrow.Author.Needs.{needs}
-use Rattle.writing.proofs.put_type.Statement.{statement}
-use Rattle.writing.proofs.put_type.Tie as tie
+use Rattle.typetexts.proofs.put_type.Statement.{statement}
+use Rattle.typetexts.proofs.put_type.Tie as tie
 
 put-scalar-requires : tie.Need-put-scalar-requires
 put-scalar-requires c κs = (c .before .before .before .pre .0, c .before .before .before .pre .1, rw (scalar-text (c .before .before .before .args .p) (c .before .before .before .pre .0) (c .before .if1 .taken)) at (c .before .before .before .pre .2))

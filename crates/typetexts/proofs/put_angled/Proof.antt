@@ -5,10 +5,10 @@ use native.Mathlib.Omega.{arith}
 use lib.ListN.{length-append}
 use Rattle.buffers.specs.Text.{bytes}
 use Rattle.buffers.proofs.Puts.{both-made}
-use Rattle.writing.proofs.TypeTexts.{scalarAt, angled-length}
+use Rattle.typetexts.proofs.TypeTexts.{scalarAt, angled-length}
 use borrow.Author.Needs.{needs}
-use Rattle.writing.proofs.put_angled.Statement.{statement}
-use Rattle.writing.proofs.put_angled.Tie as tie
+use Rattle.typetexts.proofs.put_angled.Statement.{statement}
+use Rattle.typetexts.proofs.put_angled.Tie as tie
 
 put-byte-requires : tie.Need-put-byte-requires
 put-byte-requires c κs = search needs

@@ -4,10 +4,10 @@ use native.Mathlib.Omega.{arith}
 use Rattle.values.specs.Value.{scalarOf, kindAt}
 use Rattle.buffers.specs.Text.{bytes}
 use Rattle.buffers.proofs.Puts.{both-made}
-use Rattle.writing.proofs.TypeTexts.{bool-chosen, three-chosen}
+use Rattle.typetexts.proofs.TypeTexts.{bool-chosen, three-chosen}
 use borrow.Author.Needs.{needs}
-use Rattle.writing.proofs.put_scalar.Statement.{statement}
-use Rattle.writing.proofs.put_scalar.Tie as tie
+use Rattle.typetexts.proofs.put_scalar.Statement.{statement}
+use Rattle.typetexts.proofs.put_scalar.Tie as tie
 
 scalar-place-requires : tie.Need-scalar-place-requires
 scalar-place-requires c κs = search needs

@@ -8,9 +8,9 @@ use mathlib.Core.Path.{_≡_, refl, sym, _∙_}
 use mathlib.Core.List.{_++_}
 use lib.ListN.{drop, take, length, length-set}
 use Rattle.spelling.specs.Hex.{hexBytes}
-use Rattle.writing.proofs.Digits.{put-turn, put-end}
-use Rattle.writing.proofs.put_hex.Statement.{statement}
-use Rattle.writing.proofs.put_hex.Tie as tie
+use Rattle.lanetexts.proofs.Digits.{put-turn, put-end}
+use Rattle.lanetexts.proofs.put_hex.Statement.{statement}
+use Rattle.lanetexts.proofs.put_hex.Tie as tie
 
 abbrev Inv-loop : tie.InvT-loop
 Inv-loop out₀ at n v hex rest₀ i₀ out rest i =

@@ -1,10 +1,10 @@
 -- One answer for each side of the test, as `scalar-place` says. Assumes nothing.
 use mathlib.Core.Path.{sym, _∙_}
 use borrow.Author.Tests.{lt-ltb, le-ltb}
-use Rattle.writing.proofs.TypeTexts.{scalar-place}
+use Rattle.typetexts.proofs.TypeTexts.{scalar-place}
 use borrow.Author.Needs.{needs}
-use Rattle.writing.proofs.scalar_place.Statement.{statement}
-use Rattle.writing.proofs.scalar_place.Tie as tie
+use Rattle.typetexts.proofs.scalar_place.Statement.{statement}
+use Rattle.typetexts.proofs.scalar_place.Tie as tie
 
 add-result : tie.Need-add-result
 add-result c = search needs
