@@ -41,7 +41,7 @@ fn put_cast(w: &mut [u64], table: &[u8; 256], builtin: u64, line: &[u8])
         w,
         builtin,
         fields::argument_count(line) as u64,
-        reading::type_of(target),
+        typenames::type_of(target),
     );
 }
 

@@ -32,10 +32,12 @@ use Rattle.spelling.proofs.ReadsBack.{type-back, fits, read-back}
 use Rattle.spelling.proofs.Texts.{text-16, at-most-8}
 use Rattle.spelling.proofs.TextBytes.{text-tabless}
 use Rattle.spelling.proofs.WrittenSo.{Spelled, written-so, fault-empty}
-use Rattle.reading.specs.Program.{typeFrom, lanesFrom, ends}
-use Rattle.reading.proofs.LaneTexts.{from-most, lanes-read, lanes-there}
-use Rattle.reading.proofs.Scan.{lanes-of}
-use Rattle.reading.proofs.TypeTexts.{sound, complete}
+use Rattle.typenames.specs.Program.{typeFrom}
+use Rattle.digits.specs.Program.{lanesFrom}
+use Rattle.reading.specs.Program.{ends}
+use Rattle.digits.proofs.LaneTexts.{from-most, lanes-read, lanes-there}
+use Rattle.spelling.proofs.Scan.{lanes-of}
+use Rattle.typenames.proofs.TypeTexts.{sound, complete}
 
 -- the lanes that the program finds in a text of a type
 abbrev pub lanesIn : Kind → List ℕ → List ℕ

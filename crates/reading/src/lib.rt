@@ -1,34 +1,17 @@
 // Values read from their spellings, straight into words.
-mod faults;
-mod lanes;
-mod types;
-
 use spelling::Fault;
 use spelling::Reading;
 ghost use mathlib.Core.Path.{_≡_};
 ghost use Prim.Native.Nat.{_+_, _≤_, _<_};
 ghost use lib.ListN.{length, take};
-ghost use Rattle.values.specs.Value.{place, emptyValue};
+ghost use Rattle.values.specs.Value.{emptyValue};
 ghost use Rattle.buffers.specs.Text.{placeOf};
 ghost use Rattle.buffers.specs.Memory.{put};
 ghost use Rattle.words.specs.Words.{valueAt, wordsOf};
-ghost use Rattle.spelling.specs.Types.{kindOf};
 ghost use Rattle.spelling.specs.Hex.{DigitTable};
 ghost use Rattle.spelling.specs.Read.{faultNumber, readValue};
 ghost use Rattle.reading.specs.Into.{readIn, wordsIn};
 ghost use Rattle.reading.specs.Program.{ends};
-
-// The place of the type that s spells, 0 where it spells none.
-pub fn type_of(s: &[u8]) -> u64
-    ensures { λ r. ⌜ (r ≡ place (kindOf (now (s .entry)))) × (r < 39) ⌝ }
-{
-    let p = types::type_from(s);
-    if spelling::type_len(p) == s.len() {
-        p
-    } else {
-        0
-    }
-}
 
 // ---- fields
 
@@ -62,7 +45,7 @@ fn value_into(w: &mut [u64], at: usize, table: &[u8; 256], t: &[u8]) -> usize
         × (now (w .exit) ≡ put (now (w .entry)) at (wordsOf (readValue (take (placeOf 9 (now (t .entry))) (now (t .entry))) .value))) ⌝ }
 {
     clear(w, at);
-    let p = types::type_from(t);
+    let p = typenames::type_from(t);
     let s = words::types::scalar_at(p);
     let n = words::types::count_at(p);
     let start = spelling::type_len(p);
@@ -70,7 +53,7 @@ fn value_into(w: &mut [u64], at: usize, table: &[u8; 256], t: &[u8]) -> usize
     if !ends_at(t, len) {
         return 0;
     }
-    if lanes::lanes_into(w, at + 1, table, &t[0..len], start, n, s) < n {
+    if digits::lanes_into(w, at + 1, table, &t[0..len], start, n, s) < n {
         clear(w, at);
         return 0;
     }

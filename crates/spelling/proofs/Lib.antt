@@ -1,6 +1,7 @@
 pub mod Edges
 pub mod Hexes
 pub mod ReadsBack
+pub mod Scan
 pub mod Spellings
 pub mod Tested
 pub mod TextBytes

@@ -45,7 +45,7 @@ pub fn count_at(p: u64) -> usize
     (columns * rows) as usize
 }
 
-fn choose(on: bool, a: u64, b: u64) -> u64
+pub fn choose(on: bool, a: u64, b: u64) -> u64
     ensures { λ r. ⌜ r ≡ cond on a b ⌝ }
 {
     if on { a } else { b }

@@ -1,5 +1,2 @@
-pub mod Digits
-pub mod LanePuts
-pub mod TypeTexts
 pub mod ValueTexts
 pub mod Told

@@ -1,0 +1,2 @@
+pub mod LaneTexts
+pub mod Numbers

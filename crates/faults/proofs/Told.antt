@@ -1,0 +1,17 @@
+-- The fault of lanes does not look at what they spell, and is what reading them tells. By cases of what reading gives. Assumes nothing.
+use Prim.Native.Nat.{ℕ}
+use mathlib.Core.Path.{_≡_, refl}
+use Rattle.values.specs.declared.Kind.{Kind}
+use Rattle.spelling.specs.Read.{Scanned, digitAt, countAt, good, before, wrong, found, reading}
+use Rattle.faults.specs.Program.{faultOf, toldOf}
+
+pub fault-before : (v : ℕ) (r : Scanned) → faultOf (before v r) ≡ faultOf r
+fault-before v (digitAt p) = refl
+fault-before v (countAt p) = refl
+fault-before v (good l) = refl
+
+pub fault-told : (k : Kind) (r : Scanned) → faultOf r ≡ toldOf (reading k r)
+unfolding wrong found
+fault-told k (digitAt p) = refl
+fault-told k (countAt p) = refl
+fault-told k (good l) = refl

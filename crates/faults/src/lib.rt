@@ -1,0 +1,100 @@
+// The fault of a spelling, worked out byte by byte once there is one.
+use spelling::Fault;
+use values::Scalar;
+ghost use mathlib.Core.Path.{_≡_};
+ghost use Prim.Native.Nat.{_+_, _^_, _≤_, _<_};
+ghost use lib.ListN.{length};
+ghost use Rattle.values.specs.Value.{kindAt};
+ghost use Rattle.spelling.specs.Hex.{digitBound};
+ghost use Rattle.spelling.specs.Read.{lanesAt, readLanes, readValue};
+ghost use Rattle.faults.specs.Program.{faulty, faultOf, toldOf};
+
+// What is wrong with a spelling, and at which place from 1.
+pub struct Faulty {
+    pub fault: Fault,
+    pub place: usize,
+}
+
+fn fault_at(fault: Fault, place: usize) -> Faulty
+    ensures { λ r. ⌜ r ≡ faulty fault place ⌝ }
+{
+    Faulty {
+        fault: fault,
+        place: place,
+    }
+}
+
+// The first digit that a lane cannot have.
+fn digit_bound(s: Scalar) -> u8
+    ensures { λ r. ⌜ (r ≡ digitBound s) × (r ≤ 16) ⌝ }
+{
+    match s {
+        Scalar::Boolean => 2,
+        Scalar::I32 => 16,
+        Scalar::U32 => 16,
+        Scalar::F32 => 16,
+        Scalar::F16 => 16,
+    }
+}
+
+// What is wrong with n + 1 lanes, each of w digits below b; s starts at place p.
+fn lanes_fault(s: &[u8], p: usize, n: usize, w: usize, b: u8) -> Faulty
+    requires { ⌜ p + length (now s) < 2 ^ 64 ⌝ }
+    ensures { λ r. ⌜ r ≡ faultOf (lanesAt b w n w p 0 (now (s .entry))) ⌝ }
+{
+    let table = spelling::digit_table();
+    let mut left = n;
+    let mut due = w;
+    let mut i: usize = 0;
+    while i < s.len() {
+        let x = s[i];
+        if due == 0 {
+            if x != b',' {
+                return fault_at(Fault::Digit, p + i);
+            }
+            if left == 0 {
+                return fault_at(Fault::Lanes, p + i);
+            }
+            left -= 1;
+            due = w;
+            i += 1;
+            continue;
+        }
+        if b <= spelling::digit(&table, x) {
+            return fault_at(Fault::Digit, p + i);
+        }
+        due -= 1;
+        i += 1;
+    }
+    if due > 0 {
+        return fault_at(Fault::Digit, p + i);
+    }
+    if left > 0 {
+        return fault_at(Fault::Lanes, p + i);
+    }
+    fault_at(Fault::Nothing, 0)
+}
+
+// What is wrong with the lanes of a value of the type at k; s starts at place p.
+fn fault_of(k: u64, s: &[u8], p: usize) -> Faulty
+    requires { ⌜ (k < 39) × (p + length (now s) < 2 ^ 64) ⌝ }
+    ensures { λ r. ⌜ r ≡ toldOf (readLanes (kindAt k) p (now (s .entry))) ⌝ }
+{
+    let n = words::types::count_at(k);
+    if n == 0 {
+        return fault_at(Fault::TypeSpelling, 1);
+    }
+    let t = words::types::scalar_at(k);
+    lanes_fault(s, p, n - 1, spelling::digit_count(t), digit_bound(t))
+}
+
+// What is wrong with a value's spelling.
+pub fn fault_in(s: &[u8]) -> Faulty
+    ensures { λ r. ⌜ (r .fault ≡ readValue (now (s .entry)) .fault) × (r .place ≡ readValue (now (s .entry)) .place) ⌝ }
+{
+    let c = buffers::find(s, b':');
+    if c == s.len() {
+        return fault_at(Fault::TypeSpelling, 1);
+    }
+    fault_of(typenames::type_of(&s[0..c]), &s[c + 1..], c + 2)
+}

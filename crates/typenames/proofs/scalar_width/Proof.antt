@@ -1,0 +1,14 @@
+-- One answer for each side of the test. Assumes nothing.
+use borrow.Author.Needs.{needs}
+use borrow.Author.Tests.{eq-eqb, ne-eqb}
+use Rattle.typenames.proofs.scalar_width.Statement.{statement}
+use Rattle.typenames.proofs.scalar_width.Tie as tie
+
+returns : tie.Need-returns
+returns c = (rw (eq-eqb _ _ (c .if1 .taken)), search needs)
+
+returns-2 : tie.Need-returns-2
+returns-2 c = (rw (ne-eqb _ _ (c .if1 .left)), search needs)
+
+pub scalar-width-spec : {M : Type 1} → statement M
+scalar-width-spec = tie.close (tie.spec returns returns-2)
