@@ -28,11 +28,11 @@ pub fn bitcast(w: &[u64], n: u64, p: u64, set: u64, x: [u32; 4]) -> Outcome
     requires { ⌜ First (now w) p × (set ≡ typesOf (takes Builtin.Bitcast)) × (3 ≤ length (now w)) ⌝ }
     ensures { λ r. ⌜ r ≡ outcome Builtin.Bitcast (eqb (judgedIn Shape.Casting set n (now (w .entry))) 0) (getD (now (w .entry)) 2 0) p x emptyValue emptyValue ⌝ }
 {
-    let t = words::types::known(w[2]);
-    let from = is_half(words::types::scalar_at(p));
-    let to = is_half(words::types::scalar_at(t));
+    let t = places::known(w[2]);
+    let from = is_half(places::scalar_at(p));
+    let to = is_half(places::scalar_at(t));
     crate::given(
-        calls::tests::casting(w, n, p, set),
+        judging::tests::casting(w, n, p, set),
         t,
         moves::recast(from, to, x),
     )

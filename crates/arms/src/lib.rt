@@ -115,7 +115,7 @@ pub fn arm(which: Builtin, w: &[u64], p: u64, x: [u32; 4]) -> Outcome
         Builtin::Cross => vectors::cross(w, n, p, calls::types_of(Builtin::Cross), x),
         Builtin::Dot => vectors::dot(w, n, p, calls::types_of(Builtin::Dot), x),
         Builtin::Transpose => given(
-            calls::tests::one_value(w, n, p, calls::types_of(Builtin::Transpose)),
+            judging::tests::one_value(w, n, p, calls::types_of(Builtin::Transpose)),
             p,
             x,
         ),

@@ -43,9 +43,9 @@ pub fn all(w: &[u64], n: u64, p: u64, set: u64, x: [u32; 4]) -> Outcome
     ensures { λ r. ⌜ r ≡ outcome Builtin.All (eqb (judgedIn Shape.OneValue set n (now (w .entry))) 0) 0 p x emptyValue emptyValue ⌝ }
 {
     crate::given_one(
-        calls::tests::one_value(w, n, p, set),
+        judging::tests::one_value(w, n, p, set),
         crate::BOOL,
-        flag_of(each_is(words::types::count_at(p), x, 1)),
+        flag_of(each_is(places::count_at(p), x, 1)),
     )
 }
 
@@ -54,9 +54,9 @@ pub fn any(w: &[u64], n: u64, p: u64, set: u64, x: [u32; 4]) -> Outcome
     ensures { λ r. ⌜ r ≡ outcome Builtin.Any (eqb (judgedIn Shape.OneValue set n (now (w .entry))) 0) 0 p x emptyValue emptyValue ⌝ }
 {
     crate::given_one(
-        calls::tests::one_value(w, n, p, set),
+        judging::tests::one_value(w, n, p, set),
         crate::BOOL,
-        flag_of(!each_is(words::types::count_at(p), x, 0)),
+        flag_of(!each_is(places::count_at(p), x, 0)),
     )
 }
 
@@ -65,7 +65,7 @@ pub fn select(w: &[u64], n: u64, p: u64, set: u64, x: [u32; 4]) -> Outcome
     ensures { λ r. ⌜ r ≡ outcome Builtin.Select (eqb (judgedIn Shape.Selecting set n (now (w .entry))) 0) 0 p x (valueAt (now (w .entry)) 20) (valueAt (now (w .entry)) 37) ⌝ }
 {
     crate::given(
-        calls::tests::selecting(w, n, p, set),
+        judging::tests::selecting(w, n, p, set),
         p,
         moves::select_four(x, words::cut_at(w, 20), condition(w)),
     )

@@ -14,9 +14,9 @@ pub fn abs(w: &[u64], n: u64, p: u64, set: u64, x: [u32; 4]) -> Outcome
     ensures { λ r. ⌜ r ≡ outcome Builtin.Abs (eqb (judgedIn Shape.OneValue set n (now (w .entry))) 0) 0 p x emptyValue emptyValue ⌝ }
 {
     crate::given(
-        calls::tests::one_value(w, n, p, set),
+        judging::tests::one_value(w, n, p, set),
         p,
-        numeric::abs(words::types::scalar_at(p), x),
+        numeric::abs(places::scalar_at(p), x),
     )
 }
 
@@ -25,9 +25,9 @@ pub fn sign(w: &[u64], n: u64, p: u64, set: u64, x: [u32; 4]) -> Outcome
     ensures { λ r. ⌜ r ≡ outcome Builtin.Sign (eqb (judgedIn Shape.OneValue set n (now (w .entry))) 0) 0 p x emptyValue emptyValue ⌝ }
 {
     crate::given(
-        calls::tests::one_value(w, n, p, set),
+        judging::tests::one_value(w, n, p, set),
         p,
-        numeric::sign(words::types::scalar_at(p), x),
+        numeric::sign(places::scalar_at(p), x),
     )
 }
 
@@ -36,7 +36,7 @@ pub fn count_leading_zeros(w: &[u64], n: u64, p: u64, set: u64, x: [u32; 4]) -> 
     ensures { λ r. ⌜ r ≡ outcome Builtin.CountLeadingZeros (eqb (judgedIn Shape.OneValue set n (now (w .entry))) 0) 0 p x emptyValue emptyValue ⌝ }
 {
     crate::given(
-        calls::tests::one_value(w, n, p, set),
+        judging::tests::one_value(w, n, p, set),
         p,
         numeric::count_leading_zeros(x),
     )
@@ -47,7 +47,7 @@ pub fn count_one_bits(w: &[u64], n: u64, p: u64, set: u64, x: [u32; 4]) -> Outco
     ensures { λ r. ⌜ r ≡ outcome Builtin.CountOneBits (eqb (judgedIn Shape.OneValue set n (now (w .entry))) 0) 0 p x emptyValue emptyValue ⌝ }
 {
     crate::given(
-        calls::tests::one_value(w, n, p, set),
+        judging::tests::one_value(w, n, p, set),
         p,
         numeric::count_one_bits(x),
     )
@@ -58,7 +58,7 @@ pub fn count_trailing_zeros(w: &[u64], n: u64, p: u64, set: u64, x: [u32; 4]) ->
     ensures { λ r. ⌜ r ≡ outcome Builtin.CountTrailingZeros (eqb (judgedIn Shape.OneValue set n (now (w .entry))) 0) 0 p x emptyValue emptyValue ⌝ }
 {
     crate::given(
-        calls::tests::one_value(w, n, p, set),
+        judging::tests::one_value(w, n, p, set),
         p,
         numeric::count_trailing_zeros(x),
     )

@@ -14,9 +14,9 @@ pub fn min(w: &[u64], n: u64, p: u64, set: u64, x: [u32; 4]) -> Outcome
     ensures { λ r. ⌜ r ≡ outcome Builtin.Min (eqb (judgedIn Shape.TwoAlike set n (now (w .entry))) 0) 0 p x (valueAt (now (w .entry)) 20) (valueAt (now (w .entry)) 37) ⌝ }
 {
     crate::given(
-        calls::tests::two_alike(w, n, p, set),
+        judging::tests::two_alike(w, n, p, set),
         p,
-        limits::min(words::types::scalar_at(p), x, words::cut_at(w, 20)),
+        limits::min(places::scalar_at(p), x, words::cut_at(w, 20)),
     )
 }
 
@@ -25,9 +25,9 @@ pub fn max(w: &[u64], n: u64, p: u64, set: u64, x: [u32; 4]) -> Outcome
     ensures { λ r. ⌜ r ≡ outcome Builtin.Max (eqb (judgedIn Shape.TwoAlike set n (now (w .entry))) 0) 0 p x (valueAt (now (w .entry)) 20) (valueAt (now (w .entry)) 37) ⌝ }
 {
     crate::given(
-        calls::tests::two_alike(w, n, p, set),
+        judging::tests::two_alike(w, n, p, set),
         p,
-        limits::max(words::types::scalar_at(p), x, words::cut_at(w, 20)),
+        limits::max(places::scalar_at(p), x, words::cut_at(w, 20)),
     )
 }
 
@@ -36,10 +36,10 @@ pub fn clamp(w: &[u64], n: u64, p: u64, set: u64, x: [u32; 4]) -> Outcome
     ensures { λ r. ⌜ r ≡ outcome Builtin.Clamp (eqb (judgedIn Shape.ThreeAlike set n (now (w .entry))) 0) 0 p x (valueAt (now (w .entry)) 20) (valueAt (now (w .entry)) 37) ⌝ }
 {
     crate::given(
-        calls::tests::three_alike(w, n, p, set),
+        judging::tests::three_alike(w, n, p, set),
         p,
         limits::clamp(
-            words::types::scalar_at(p),
+            places::scalar_at(p),
             x,
             words::cut_at(w, 20),
             words::cut_at(w, 37),
@@ -52,7 +52,7 @@ pub fn saturate(w: &[u64], n: u64, p: u64, set: u64, x: [u32; 4]) -> Outcome
     ensures { λ r. ⌜ r ≡ outcome Builtin.Saturate (eqb (judgedIn Shape.OneValue set n (now (w .entry))) 0) 0 p x emptyValue emptyValue ⌝ }
 {
     crate::given(
-        calls::tests::one_value(w, n, p, set),
+        judging::tests::one_value(w, n, p, set),
         p,
         limits::saturate(x),
     )
@@ -63,8 +63,8 @@ pub fn step(w: &[u64], n: u64, p: u64, set: u64, x: [u32; 4]) -> Outcome
     ensures { λ r. ⌜ r ≡ outcome Builtin.Step (eqb (judgedIn Shape.TwoAlike set n (now (w .entry))) 0) 0 p x (valueAt (now (w .entry)) 20) (valueAt (now (w .entry)) 37) ⌝ }
 {
     crate::given(
-        calls::tests::two_alike(w, n, p, set),
+        judging::tests::two_alike(w, n, p, set),
         p,
-        limits::step(words::types::scalar_at(p), x, words::cut_at(w, 20)),
+        limits::step(places::scalar_at(p), x, words::cut_at(w, 20)),
     )
 }

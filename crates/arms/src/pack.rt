@@ -18,7 +18,7 @@ pub fn pack8(w: &[u64], n: u64, p: u64, set: u64, t: Coding8, x: [u32; 4]) -> Ou
     ensures { λ r. ⌜ r ≡ givenOne (eqb (judgedIn Shape.OneValue set n (now (w .entry))) 0) 3 (joined 8 (four (code8Of t) x)) ⌝ }
 {
     crate::given_one(
-        calls::tests::one_value(w, n, p, set),
+        judging::tests::one_value(w, n, p, set),
         crate::U32,
         packing::word8(t, x),
     )
@@ -29,7 +29,7 @@ pub fn pack16(w: &[u64], n: u64, p: u64, set: u64, t: Coding16, x: [u32; 4]) -> 
     ensures { λ r. ⌜ r ≡ givenOne (eqb (judgedIn Shape.OneValue set n (now (w .entry))) 0) 3 (joined 16 (take 2 (four (code16Of t) x))) ⌝ }
 {
     crate::given_one(
-        calls::tests::one_value(w, n, p, set),
+        judging::tests::one_value(w, n, p, set),
         crate::U32,
         packing::word16(t, x),
     )
@@ -41,7 +41,7 @@ pub fn pack_filling(w: &[u64], n: u64, p: u64, set: u64, x: [u32; 4]) -> Outcome
     ensures { λ r. ⌜ r ≡ givenOne (eqb (judgedIn Shape.OneValue set n (now (w .entry))) 0) 3 (fillFour x) ⌝ }
 {
     crate::given_one(
-        calls::tests::one_value(w, n, p, set),
+        judging::tests::one_value(w, n, p, set),
         crate::U32,
         packing::fill_word(x),
     )
@@ -53,7 +53,7 @@ pub fn unpack8(w: &[u64], n: u64, p: u64, set: u64, t: Coding8, k: u64, x: [u32;
     ensures { λ r. ⌜ r ≡ given (eqb (judgedIn Shape.OneValue set n (now (w .entry))) 0) k (map (lane8Of t) (parts 8 4 (getD x 0 0))) ⌝ }
 {
     crate::given(
-        calls::tests::one_value(w, n, p, set),
+        judging::tests::one_value(w, n, p, set),
         k,
         packing::lanes8(t, x[0]),
     )
@@ -64,7 +64,7 @@ pub fn unpack16(w: &[u64], n: u64, p: u64, set: u64, t: Coding16, x: [u32; 4]) -
     ensures { λ r. ⌜ r ≡ given (eqb (judgedIn Shape.OneValue set n (now (w .entry))) 0) 9 (map (lane16Of t) (parts 16 2 (getD x 0 0)) ++ 0 ∷ 0 ∷ []) ⌝ }
 {
     crate::given(
-        calls::tests::one_value(w, n, p, set),
+        judging::tests::one_value(w, n, p, set),
         crate::VEC2_F32,
         packing::lanes16(t, x[0]),
     )

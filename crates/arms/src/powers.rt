@@ -14,12 +14,12 @@ pub fn frexp(w: &[u64], n: u64, p: u64, set: u64, x: [u32; 4]) -> Outcome
     requires { ⌜ First (now w) p ⌝ }
     ensures { λ r. ⌜ r ≡ outcome Builtin.Frexp (eqb (judgedIn Shape.OneValue set n (now (w .entry))) 0) 0 p x emptyValue emptyValue ⌝ }
 {
-    let s = words::types::scalar_at(p);
+    let s = places::scalar_at(p);
     crate::given_two(
-        calls::tests::one_value(w, n, p, set),
+        judging::tests::one_value(w, n, p, set),
         p,
         exponent::fraction(s, x),
-        words::types::integers_at(p),
+        places::integers_at(p),
         exponent::exponent(s, x),
     )
 }
@@ -29,7 +29,7 @@ pub fn ldexp(w: &[u64], n: u64, p: u64, set: u64, x: [u32; 4]) -> Outcome
     ensures { λ r. ⌜ r ≡ outcome Builtin.Ldexp (eqb (judgedIn Shape.Scaling set n (now (w .entry))) 0) 0 p x (valueAt (now (w .entry)) 20) (valueAt (now (w .entry)) 37) ⌝ }
 {
     crate::given(
-        calls::tests::scaling(w, n, p, set),
+        judging::tests::scaling(w, n, p, set),
         p,
         exponent::ldexp(x, words::cut_at(w, 20)),
     )

@@ -14,7 +14,7 @@ pub fn cross(w: &[u64], n: u64, p: u64, set: u64, x: [u32; 4]) -> Outcome
     ensures { λ r. ⌜ r ≡ outcome Builtin.Cross (eqb (judgedIn Shape.TwoAlike set n (now (w .entry))) 0) 0 p x (valueAt (now (w .entry)) 20) (valueAt (now (w .entry)) 37) ⌝ }
 {
     crate::given(
-        calls::tests::two_alike(w, n, p, set),
+        judging::tests::two_alike(w, n, p, set),
         p,
         products::cross(x, words::cut_at(w, 20)),
     )
@@ -24,10 +24,10 @@ pub fn dot(w: &[u64], n: u64, p: u64, set: u64, x: [u32; 4]) -> Outcome
     requires { ⌜ First (now w) p ⌝ }
     ensures { λ r. ⌜ r ≡ outcome Builtin.Dot (eqb (judgedIn Shape.TwoAlike set n (now (w .entry))) 0) 0 p x (valueAt (now (w .entry)) 20) (valueAt (now (w .entry)) 37) ⌝ }
 {
-    let s = words::types::scalar_at(p);
+    let s = places::scalar_at(p);
     crate::given_one(
-        calls::tests::two_alike(w, n, p, set),
+        judging::tests::two_alike(w, n, p, set),
         values::place_of(Kind::One(s)),
-        products::dot(s, words::types::count_at(p), x, words::cut_at(w, 20)),
+        products::dot(s, places::count_at(p), x, words::cut_at(w, 20)),
     )
 }

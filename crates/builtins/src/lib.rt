@@ -61,15 +61,15 @@ pub fn fold(w: &[u64], out: &mut [u64]) -> u8
         return matrix::fold(w, p, out);
     }
     if p == 0 {
-        return calls::refusal_of(w);
+        return judging::refusal_of(w);
     }
     if !words::formed_as(w, 3, p) {
-        return calls::refusal_of(w);
+        return judging::refusal_of(w);
     }
     let i = w[0];
     let a = arms::arm(calls::builtin_at(i), w, p, words::cut_at(w, 3));
     if !a.passes {
-        return calls::refusal_of(w);
+        return judging::refusal_of(w);
     }
     put_answer(out, a)
 }

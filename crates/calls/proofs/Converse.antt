@@ -14,7 +14,7 @@ use Rattle.values.specs.declared.Value.{Value}
 use Rattle.values.specs.Value.{isType, shaped, kinds, kindAt, sameKind, wellFormed}
 use Rattle.values.proofs.Bools.{both, and, either}
 use Rattle.values.proofs.Places.{all, each, same, itself}
-use Rattle.words.specs.Program.{setOf}
+use Rattle.places.specs.Program.{setOf}
 use Rattle.words.specs.Words.{valueAt}
 use Rattle.calls.specs.declared.Builtin.{Builtin}
 use Rattle.calls.specs.Table.{I32s, taken, takes, builtinAt}

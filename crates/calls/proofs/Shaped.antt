@@ -14,9 +14,9 @@ use Rattle.values.specs.declared.Value.{Value}
 use Rattle.values.specs.Value.{kindAt, place}
 use Rattle.values.proofs.Bools.{both}
 use Rattle.values.proofs.Places.{itself}
-use Rattle.words.specs.Program.{member, setOf}
+use Rattle.places.specs.Program.{member, setOf}
 use Rattle.words.specs.Words.{valueAt}
-use Rattle.words.proofs.Sets.{members}
+use Rattle.places.proofs.Sets.{members}
 use Rattle.calls.specs.declared.Builtin.{Builtin}
 use Rattle.calls.specs.declared.Builtin.the-variants.{Unknown}
 use Rattle.calls.specs.Table.{Taken, Anything, I32s, Together, OneType, Selectable, SameShape, Row, Absent, Unary, Binary, Ternary, Cast, taken, takes, builtins, builtinAt}

@@ -10,7 +10,7 @@ use Rattle.values.specs.declared.Kind.{Kind}
 use Rattle.values.specs.declared.Kind.the-variants.{One}
 use Rattle.values.specs.declared.Value.{Value}
 use Rattle.values.specs.Value.{isType, shaped, place, kindAt, sameKind, wellFormed}
-use Rattle.words.specs.Program.{member, setOf}
+use Rattle.places.specs.Program.{member, setOf}
 use Rattle.words.specs.Words.{valueAt}
 use Rattle.calls.specs.declared.Builtin.{Builtin}
 use Rattle.calls.specs.declared.table.Entry.{Entry}

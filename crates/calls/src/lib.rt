@@ -1,7 +1,5 @@
-// A call, and which calls are refused.
-mod refuse;
+// A call, and 01's table of what its builtin takes.
 pub mod table;
-pub mod tests;
 
 use values::Kind;
 use values::Value;
@@ -11,8 +9,6 @@ ghost use Prim.Native.Nat.{_≤_, _<_};
 ghost use lib.ListN.{length};
 ghost use Rattle.buffers.specs.Memory.{put};
 ghost use Rattle.calls.specs.Table.{takes, builtinAt};
-ghost use Rattle.calls.specs.Refuse.{refusalOf};
-ghost use Rattle.calls.specs.Words.{callOf};
 ghost use Rattle.calls.specs.Program.{typesOf};
 
 // In the order of 01's table; Unknown is a name that is not in it.
@@ -176,13 +172,4 @@ pub fn put_head(w: &mut [u64], builtin: u64, count: u64, target: u64)
     w[0] = builtin;
     w[1] = count;
     w[2] = target;
-}
-
-// The refusal of a call of words, 0 where there is none.
-pub fn refusal_of(w: &[u64]) -> u8
-    ensures { λ r. ⌜ r ≡ refusalOf (callOf (now (w .entry))) ⌝ }
-{
-    let row = table::entry_of(builtin_at(words::word(w, 0)));
-    let shape = row.shape;
-    refuse::judge(w, shape, words::word(w, 1), row.set)
 }

@@ -229,5 +229,5 @@ pub fn bytes_at(p: u64) -> usize
     requires { ⌜ p < 39 ⌝ }
     ensures { λ r. ⌜ r ≡ byteSize (kindAt p) ⌝ }
 {
-    bytes_of(words::types::count_at(p), words::types::scalar_at(p))
+    bytes_of(places::count_at(p), places::scalar_at(p))
 }

@@ -80,11 +80,11 @@ fn fault_of(k: u64, s: &[u8], p: usize) -> Faulty
     requires { ⌜ (k < 39) × (p + length (now s) < 2 ^ 64) ⌝ }
     ensures { λ r. ⌜ r ≡ toldOf (readLanes (kindAt k) p (now (s .entry))) ⌝ }
 {
-    let n = words::types::count_at(k);
+    let n = places::count_at(k);
     if n == 0 {
         return fault_at(Fault::TypeSpelling, 1);
     }
-    let t = words::types::scalar_at(k);
+    let t = places::scalar_at(k);
     lanes_fault(s, p, n - 1, spelling::digit_count(t), digit_bound(t))
 }
 

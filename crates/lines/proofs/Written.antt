@@ -14,7 +14,7 @@ use Rattle.values.proofs.Places.{there}
 use Rattle.buffers.specs.Memory.{put}
 use Rattle.buffers.proofs.Puts.{Made, both-made, put-nil, given-refused, given-short, given-room}
 use Rattle.words.specs.Words.{valueAt}
-use Rattle.words.proofs.Tables.{typed}
+use Rattle.places.proofs.Tables.{typed}
 use Rattle.words.proofs.There.{lanes-16}
 use Rattle.spelling.specs.Write.{textOf, textLength}
 use Rattle.spelling.proofs.Texts.{text-16, at-most-155}

@@ -14,7 +14,7 @@ use Rattle.values.specs.declared.Value.{Value}
 use Rattle.values.specs.Value.{laneCount, place, kindAt, lane, value}
 use Rattle.values.proofs.Formed.{lanes-16}
 use Rattle.words.specs.Words.{wordsOf}
-use Rattle.words.proofs.Tables.{own-place}
+use Rattle.places.proofs.Tables.{own-place}
 use Rattle.calls.specs.Table.{matrix}
 use Rattle.calls.proofs.Converse.{implied, from-implied}
 use Rattle.moves.specs.Moves.{upTo, transposedLanes, transposed, transposeOf}

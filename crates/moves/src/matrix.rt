@@ -83,7 +83,7 @@ pub fn put_transposed(w: &[u64], p: u64, out: &mut [u64])
 {
     let n = columns_at(p);
     let m = turned(columns(w, rows_at(p)));
-    let count = words::types::count_at(p);
+    let count = places::count_at(p);
     out[0] = turned_at(p);
     let mut j = 0;
     while j < 16 {

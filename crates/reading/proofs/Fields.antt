@@ -21,7 +21,7 @@ use Rattle.values.proofs.Formed.{is-type, used-below}
 use Rattle.values.proofs.Places as places
 use Rattle.buffers.specs.Text.{placeOf}
 use Rattle.buffers.proofs.FirstPlace.{place-le, place-hit, place-past, place-split}
-use Rattle.words.proofs.Tables.{own-place, typed}
+use Rattle.places.proofs.Tables.{own-place, typed}
 use Rattle.spelling.specs.declared.Fault.{Fault}
 use Rattle.spelling.specs.declared.Fault.the-variants.{Nothing, TypeSpelling, Lanes, Digit}
 use Rattle.spelling.specs.Types.{spelled}

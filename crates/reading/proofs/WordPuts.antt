@@ -10,7 +10,7 @@ use Rattle.values.specs.Value.{kindAt, value, emptyValue}
 use Rattle.buffers.specs.Memory.{put}
 use Rattle.buffers.proofs.Puts.{put-set, put-cons, put-length}
 use Rattle.words.specs.Words.{wordsOf}
-use Rattle.words.proofs.Tables.{own-place}
+use Rattle.places.proofs.Tables.{own-place}
 
 put-over : (o : List ℕ) (at : ℕ) (xs ys : List ℕ) → at + length xs ≤ length o → length ys ≤ length xs → put (put o at xs) at ys ≡ put o at (ys ++ drop (length ys) xs)
 unfolding put

@@ -15,18 +15,6 @@ ghost use Rattle.reading.specs.Program.{ends};
 
 // ---- fields
 
-// The words of the empty value, from `at` on.
-fn clear(w: &mut [u64], at: usize)
-    requires { ⌜ at + 17 ≤ length (now w) ⌝ }
-    ensures { λ _. ⌜ now (w .exit) ≡ put (now (w .entry)) at (wordsOf emptyValue) ⌝ }
-{
-    let mut i = 0;
-    while i < 17 {
-        w[at + i] = 0;
-        i += 1;
-    }
-}
-
 // Whether a field ends at e: there, or at a tab.
 fn ends_at(t: &[u8], e: usize) -> bool
     ensures { λ r. ⌜ r ≡ ends (now (t .entry)) e ⌝ }
@@ -44,17 +32,17 @@ fn value_into(w: &mut [u64], at: usize, table: &[u8; 256], t: &[u8]) -> usize
     ensures { λ r. ⌜ (0 < r → r ≡ placeOf 9 (now (t .entry)))
         × (now (w .exit) ≡ put (now (w .entry)) at (wordsOf (readValue (take (placeOf 9 (now (t .entry))) (now (t .entry))) .value))) ⌝ }
 {
-    clear(w, at);
+    words::clear(w, at);
     let p = typenames::type_from(t);
-    let s = words::types::scalar_at(p);
-    let n = words::types::count_at(p);
+    let s = places::scalar_at(p);
+    let n = places::count_at(p);
     let start = spelling::type_len(p);
     let len = start + n * (spelling::digit_count(s) + 1);
     if !ends_at(t, len) {
         return 0;
     }
     if digits::lanes_into(w, at + 1, table, &t[0..len], start, n, s) < n {
-        clear(w, at);
+        words::clear(w, at);
         return 0;
     }
     w[at] = p;
@@ -68,7 +56,7 @@ pub fn read_field(w: &mut [u64], at: usize, table: &[u8; 256], t: &[u8]) -> usiz
         × (now (w .exit) ≡ put (now (w .entry)) at (wordsOf (readValue (take (placeOf 9 (now (t .entry))) (now (t .entry))) .value))) ⌝ }
 {
     if t.len() == 0 {
-        clear(w, at);
+        words::clear(w, at);
         return 0;
     }
     let len = value_into(w, at, table, t);

@@ -19,7 +19,7 @@ use Rattle.values.proofs.Places.{there, each}
 use Rattle.buffers.specs.Text.{byte, bytes, sameBytes, firstSpelled}
 use Rattle.buffers.proofs.Lookup.{same-true}
 use Rattle.spelling.specs.Types.{spelled, kindOf}
-use Rattle.words.proofs.Tables.{own-place, typed}
+use Rattle.places.proofs.Tables.{own-place, typed}
 use Rattle.spelling.proofs.Spellings.{none-or-spelled, kind-spelled}
 use Rattle.values.proofs.Tested.{below, below-at}
 use Rattle.typenames.specs.Program.{scalarBy, scalarWidth, sizeBy, vectorTests, vectorBy, vectorFrom, matrixTests, matrixBy, matrixFrom, typeFrom}

@@ -1,5 +1,5 @@
 // The type that a text starts with, by its bytes, and the type that a text spells.
-use words::types::choose;
+use places::choose;
 ghost use mathlib.Core.Path.{_≡_};
 ghost use Prim.Native.Nat.{_≤_, _<_};
 ghost use lib.ListN.{getD};

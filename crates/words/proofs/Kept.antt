@@ -12,7 +12,7 @@ use Rattle.values.specs.Value.{laneCount, kindAt, value}
 use Rattle.values.specs.Program.{kept}
 use Rattle.values.proofs.Lanes.{kept-value}
 use Rattle.words.specs.Words.{wordsOf}
-use Rattle.words.proofs.Tables.{own-place}
+use Rattle.places.proofs.Tables.{own-place}
 
 -- the value of the type at p whose lanes are the first of these
 abbrev pub firstOf : ℕ → List ℕ → Value

@@ -1,4 +1,2 @@
-pub mod Tables
-pub mod Sets
 pub mod There
 pub mod Kept

@@ -20,7 +20,7 @@ use Rattle.values.proofs.Formed.{judged, is-type, empty-not-formed}
 use Rattle.values.proofs.Places as Places
 use Rattle.buffers.specs.Memory.{put}
 use Rattle.words.specs.Words.{valueAt, wordsOf}
-use Rattle.words.proofs.Tables.{typed, own-place}
+use Rattle.places.proofs.Tables.{typed, own-place}
 
 abbrev pub lanesAt : List ℕ → ℕ → List ℕ
 lanesAt w at = take 16 (drop (at + 1) w)

@@ -1,6 +1,4 @@
 // Values as words of 64 bits: specs/Words says what stands where. They are read, checked and put where they stand; a type is its place.
-pub mod types;
-
 use values::Value;
 ghost use mathlib.Core.Path.{_≡_};
 ghost use mathlib.Core.Bool.{cond, _&&_};
@@ -26,7 +24,7 @@ pub fn place_at(w: &[u64], at: usize) -> u64
     if w.len() < at + 17 {
         return 0;
     }
-    types::known(w[at])
+    places::known(w[at])
 }
 
 // Whether the value that stands there is well formed.
@@ -37,8 +35,8 @@ pub fn formed_at(w: &[u64], at: usize) -> bool
     if w.len() < at + 17 {
         return false;
     }
-    let p = types::known(w[at]);
-    (p != 0) & values::lanes_formed(&w[at + 1..at + 17], types::count_at(p), types::bound_at(p))
+    let p = places::known(w[at]);
+    (p != 0) & checks::lanes_formed(&w[at + 1..at + 17], places::count_at(p), places::bound_at(p))
 }
 
 // Whether a scalar or a vector of the type at p stands there, well formed: without a branch, once all words are there.
@@ -49,7 +47,7 @@ pub fn formed_as(w: &[u64], at: usize, p: u64) -> bool
     if w.len() < at + 17 {
         return false;
     }
-    (w[at] == p) & values::few_formed(&w[at + 1..at + 17], types::few_at(p), types::bound_at(p))
+    (w[at] == p) & checks::few_formed(&w[at + 1..at + 17], places::few_at(p), places::bound_at(p))
 }
 
 // The first four lanes of the value that stands there, cut to 32 bits: of a well-formed scalar or vector nothing is lost.
@@ -97,7 +95,7 @@ pub fn put_lanes(out: &mut [u64], at: usize, p: u64, x: [u32; 4])
     requires { ⌜ (at + 17 ≤ length (now out)) × (p ≤ 20) ⌝ }
     ensures { λ _. ⌜ now (out .exit) ≡ put (now (out .entry)) at (wordsOf (value (kindAt p) (take (laneCount (kindAt p)) x))) ⌝ }
 {
-    let n = types::few_at(p);
+    let n = places::few_at(p);
     out[at] = p;
     let mut i = 0;
     while i < 16 {

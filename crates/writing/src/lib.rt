@@ -14,8 +14,8 @@ pub fn text_len(p: u64) -> usize
     requires { ⌜ p < 39 ⌝ }
     ensures { λ r. ⌜ (r ≡ textLength (kindAt p)) × (r ≤ 155) ⌝ }
 {
-    let digits = spelling::digit_count(words::types::scalar_at(p));
-    spelling::type_len(p) + words::types::count_at(p) * (digits + 1)
+    let digits = spelling::digit_count(places::scalar_at(p));
+    spelling::type_len(p) + places::count_at(p) * (digits + 1)
 }
 
 // The text of the value whose words stand at `from`, of the type at p; answers the next place.
@@ -27,11 +27,11 @@ fn put_text(out: &mut [u8], at: usize, p: u64, w: &[u64], from: usize) -> usize
         return at;
     }
     let next = typetexts::put_type(out, at, p);
-    let digits = spelling::digit_count(words::types::scalar_at(p));
+    let digits = spelling::digit_count(places::scalar_at(p));
     lanetexts::put_lanes(
         out,
         next,
-        words::types::count_at(p),
+        places::count_at(p),
         digits,
         &w[from + 1..from + 17],
     )

@@ -12,7 +12,7 @@ use Rattle.values.specs.Value.{place, wellFormed}
 use Rattle.values.proofs.Bools.{both, either}
 use Rattle.values.proofs.Formed.{is-type}
 use Rattle.words.specs.Words.{valueAt}
-use Rattle.words.proofs.Tables.{typed}
+use Rattle.places.proofs.Tables.{typed}
 use Rattle.calls.specs.Program.{First}
 use Rattle.calls.proofs.Converse.{unformed}
 use Rattle.builtins.proofs.AgreeWords.{Worked, worked}

@@ -4,7 +4,7 @@ use mathlib.Core.Path.{ap}
 use native.Mathlib.Omega.{arith}
 use borrow.Author.Tests.{ne-eqb}
 use Rattle.values.specs.Value.{kindAt}
-use Rattle.words.proofs.Tables.{own-place, typed}
+use Rattle.places.proofs.Tables.{own-place, typed}
 use Rattle.lines.specs.Program.{secondLength}
 use borrow.Author.Needs.{needs}
 use Rattle.lines.proofs.second_len.Statement.{statement}
