@@ -18,7 +18,7 @@ use Rattle.words.proofs.Tables.{typed}
 use Rattle.builtins.proofs.Called.{lanes-16}
 use Rattle.spelling.specs.Write.{textOf, textLength}
 use Rattle.spelling.proofs.Texts.{text-16, at-most-155}
-use Rattle.lines.specs.Fields.{tab}
+use Rattle.fields.specs.Fields.{tab}
 use Rattle.lines.specs.Line.{lineOf, refusalOf, secondText, answerOf, refusalIn, writtenIn, lineAnswer}
 use Rattle.lines.specs.Program.{secondLength}
 

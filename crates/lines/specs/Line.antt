@@ -18,7 +18,7 @@ use Rattle.spelling.specs.Types.{kindOf}
 use Rattle.spelling.specs.Read.{readValue}
 use Rattle.spelling.specs.Write.{textOf}
 use Rattle.lines.specs.declared.LineAnswer.{LineAnswer}
-use Rattle.lines.specs.Fields.{tab, fieldAt, argumentCount}
+use Rattle.fields.specs.Fields.{tab, fieldAt, argumentCount}
 use Rattle.names.specs.Names.{nameOf, builtinOf}
 
 -- ---- the call that a line spells: a misspelled or missing value is the empty one there, and so refused in 3's place

@@ -1,6 +1,4 @@
 // A line folded: the call that its fields spell, as words, and the answer's text in lent memory.
-mod fields;
-
 ghost use mathlib.Core.Path.{_≡_};
 ghost use Prim.Native.Nat.{ℕ, _+_, _≤_, _<_};
 ghost use mathlib.Core.List.{List};
@@ -11,7 +9,7 @@ ghost use Rattle.words.specs.Words.{valueAt};
 ghost use Rattle.calls.specs.Table.{builtinAt};
 ghost use Rattle.calls.specs.Words as Words;
 ghost use Rattle.spelling.specs.Hex.{DigitTable};
-ghost use Rattle.lines.specs.Fields.{fieldAt, argumentCount};
+ghost use Rattle.fields.specs.Fields.{fieldAt, argumentCount};
 ghost use Rattle.lines.specs.Line.{castCall, plainCall, callOf, lineOf, secondText, lineAnswer, writtenIn};
 ghost use Rattle.lines.specs.Program.{Answers, secondLength};
 

@@ -26,7 +26,7 @@ use Rattle.buffers.proofs.FirstPlace.{without, place-after}
 use Rattle.spelling.specs.Write.{textOf}
 use Rattle.spelling.proofs.WrittenSo.{read-lanes}
 use Rattle.spelling.proofs.TextBytes.{text-without}
-use Rattle.lines.specs.Fields.{tab, fieldAt, argumentCount}
+use Rattle.fields.specs.Fields.{tab, fieldAt, argumentCount}
 use Rattle.names.specs.Names.{nameOf, builtinOf}
 use Rattle.lines.specs.Line.{plainCall, castCall, callOf, mostBytes, lineOf, refusalOf, secondText, answerOf}
 use Rattle.stream.specs.Lines.{lines}

@@ -13,7 +13,7 @@ use lib.Dec.{ltb, eqb, leb·suc-suc}
 use borrow.Author.Tests.{lt-ltb, ltb-false}
 use Rattle.buffers.specs.Text.{placeOf}
 use Rattle.buffers.proofs.FirstPlace.{place-le}
-use Rattle.lines.specs.Fields.{tab, fields, fieldAt, onFirst, argumentCount}
+use Rattle.fields.specs.Fields.{tab, fields, fieldAt, onFirst, argumentCount}
 
 -- where the first tab stands, or the length
 abbrev pub tabAt : List ℕ → ℕ

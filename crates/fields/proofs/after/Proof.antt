@@ -5,8 +5,8 @@ use mathlib.Core.Path.{sym}
 use Prim.Native.Nat.{_+_, _-_}
 use native.Mathlib.Omega.{arith}
 use borrow.Author.Needs.{needs}
-use Rattle.lines.proofs.fields.after.Statement.{statement}
-use Rattle.lines.proofs.fields.after.Tie as tie
+use Rattle.fields.proofs.after.Statement.{statement}
+use Rattle.fields.proofs.after.Tie as tie
 
 add-result : tie.Need-add-result
 add-result c = search needs

@@ -3,7 +3,7 @@ ghost use mathlib.Core.Path.{_≡_};
 ghost use Prim.Native.Nat.{_+_, _≤_};
 ghost use mathlib.Core.Bool.{cond};
 ghost use lib.ListN.{drop};
-ghost use Rattle.lines.specs.Fields.{fieldAt, argumentCount};
+ghost use Rattle.fields.specs.Fields.{fieldAt, argumentCount};
 
 // The k-th field of a line, counted from 0: the part between its tabs, and the empty part where it is missing.
 pub fn field(line: &[u8], k: usize) -> &[u8]

@@ -4,10 +4,10 @@ use Prim.Native.Nat.{_+_, _-_, _≤_}
 use mathlib.Core.Path.{_≡_}
 use native.Mathlib.Omega.{arith}
 use lib.ListN.{length, drop}
-use Rattle.lines.specs.Fields.{argumentCount}
-use Rattle.lines.proofs.Tabs.{count-step, count-end}
-use Rattle.lines.proofs.fields.argument_count.Statement.{statement}
-use Rattle.lines.proofs.fields.argument_count.Tie as tie
+use Rattle.fields.specs.Fields.{argumentCount}
+use Rattle.fields.proofs.Tabs.{count-step, count-end}
+use Rattle.fields.proofs.argument_count.Statement.{statement}
+use Rattle.fields.proofs.argument_count.Tie as tie
 
 abbrev Inv-loop : tie.InvT-loop
 Inv-loop line n₀ i₀ n i = (i ≤ length line) × (n ≤ i) × (argumentCount line ≡ n + argumentCount (drop i line))

@@ -6,11 +6,11 @@ use native.Mathlib.Omega.{arith}
 use lib.ListN.{length, drop, take, length-drop}
 use lib.Seq.{take-all}
 use Rattle.buffers.specs.Text.{placeOf}
-use Rattle.lines.specs.Fields.{fieldAt}
-use Rattle.lines.proofs.Tabs.{tabAt, field-here, field-step, field-missing}
+use Rattle.fields.specs.Fields.{fieldAt}
+use Rattle.fields.proofs.Tabs.{tabAt, field-here, field-step, field-missing}
 use borrow.Author.Needs.{needs}
-use Rattle.lines.proofs.fields.field.Statement.{statement}
-use Rattle.lines.proofs.fields.field.Tie as tie
+use Rattle.fields.proofs.field.Statement.{statement}
+use Rattle.fields.proofs.field.Tie as tie
 
 abbrev Inv-loop : tie.InvT-loop
 Inv-loop line k at₀ left₀ at left = (at ≤ length line) × (fieldAt line k ≡ fieldAt (drop at line) left)
