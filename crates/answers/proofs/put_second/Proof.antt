@@ -5,10 +5,10 @@ use native.Mathlib.Omega.{arith}
 use Rattle.buffers.proofs.Puts.{made, both-made, room-left, put-nil}
 use Rattle.words.specs.Words.{valueAt}
 use Rattle.spelling.specs.Write.{textOf}
-use Rattle.lines.proofs.Written.{second-none, second-some}
+use Rattle.answers.proofs.Written.{second-none, second-some}
 use borrow.Author.Needs.{needs}
-use Rattle.lines.proofs.put_second.Statement.{statement}
-use Rattle.lines.proofs.put_second.Tie as tie
+use Rattle.answers.proofs.put_second.Statement.{statement}
+use Rattle.answers.proofs.put_second.Tie as tie
 
 place-at-requires : tie.Need-place-at-requires
 place-at-requires c κs = search needs

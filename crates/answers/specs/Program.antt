@@ -1,4 +1,4 @@
--- How the program holds a line's answer: the refusal, and the words of the two values; and how long the text of a second value is. No statement of what a line gives rests on this. Definitions only.
+-- How the program holds an answer: the refusal, and the words of the two values; and how long the text of a second value is. No statement of what a line gives rests on this. Definitions only.
 use Prim.Native.Nat.{ℕ, _+_}
 use mathlib.Core.Bool.{cond}
 use mathlib.Core.List.{List}

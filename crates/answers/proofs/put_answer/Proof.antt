@@ -6,11 +6,11 @@ use lib.ListN.{length, length-append}
 use Rattle.buffers.proofs.Puts.{Made, made, room-left}
 use Rattle.words.specs.Words.{valueAt}
 use Rattle.spelling.specs.Write.{textOf}
-use Rattle.lines.specs.Line.{secondText}
-use Rattle.lines.proofs.Written.{refused-so, short-so, answered-so, text-there, second-there}
+use Rattle.answers.specs.Answers.{secondText}
+use Rattle.answers.proofs.Written.{refused-so, short-so, answered-so, text-there, second-there}
 use borrow.Author.Needs.{needs}
-use Rattle.lines.proofs.put_answer.Statement.{statement}
-use Rattle.lines.proofs.put_answer.Tie as tie
+use Rattle.answers.proofs.put_answer.Statement.{statement}
+use Rattle.answers.proofs.put_answer.Tie as tie
 
 -- the lengths, once they are worked out
 first-length : (c : tie.After-second-len) → c .before .before .text-len .result ≡ length (textOf (valueAt (c .before .before .before .before .before .before .before .args .a .now) 0))
@@ -27,7 +27,7 @@ first-made : (c : tie.After-put-value) → Made (c .before .before .before .befo
 first-made c = made (c .before .before .before .before .before .before .before .before .before .before .args .out .now) 0 (textOf (valueAt (c .before .before .before .before .before .before .before .before .before .before .args .a .now) 0)) (omega (arith, both-within (c .before .before))) (c .put-value .ensures)
 
 returns : tie.Need-returns
-returns c = λ line e. refused-so (c .before .before .before .args .out .now) line (e .0) (λ z. omega arith)
+returns c = λ x e. refused-so (c .before .before .before .args .out .now) x (e .0) (λ z. omega arith)
 
 place-at-requires : tie.Need-place-at-requires
 place-at-requires c κs = search needs
@@ -47,7 +47,7 @@ add-if2 c = search needs
 returns-2 : tie.Need-returns-2
 returns-2 c =
     let z = c .before .before .before .before .before .if1 .left in
-    λ line e. short-so (c .before .before .before .before .before .before .before .before .args .out .now) line (sym (e .0) ∙ z) (e .1 z .0) (e .1 z .1) (omega (arith, first-length (c .before), second-length (c .before)))
+    λ x e. short-so (c .before .before .before .before .before .before .before .before .args .out .now) x (sym (e .0) ∙ z) (e .1 z .0) (e .1 z .1) (omega (arith, first-length (c .before), second-length (c .before)))
 
 put-value-requires : tie.Need-put-value-requires
 put-value-requires c κs = search needs
@@ -65,7 +65,7 @@ same-length c = search needs
 returns-3 : tie.Need-returns-3
 returns-3 c =
     let z = c .before .before .before .before .before .before .before .before .before .before .before .before .before .if1 .left in
-    λ line e. answered-so (c .before .before .before .before .before .before .before .before .before .before .before .before .before .before .before .before .args .out .now) line (sym (e .0) ∙ z) (e .1 z .0) (e .1 z .1) (both-within (c .before .before .before .before .before .before .before .before)) (first-made (c .before .before .before .before .before .before)) (c .before .before .put-second .ensures)
+    λ x e. answered-so (c .before .before .before .before .before .before .before .before .before .before .before .before .before .before .before .before .args .out .now) x (sym (e .0) ∙ z) (e .1 z .0) (e .1 z .1) (both-within (c .before .before .before .before .before .before .before .before)) (first-made (c .before .before .before .before .before .before)) (c .before .before .put-second .ensures)
 
 pub put-answer-spec : {M : Type 1} → statement M
 put-answer-spec =

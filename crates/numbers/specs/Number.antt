@@ -1,6 +1,6 @@
 -- An answer as one number, for a program that links the library. Definitions only.
 use Prim.Native.Nat.{ℕ, _+_, _*_, _^_}
-use Rattle.lines.specs.declared.LineAnswer.{LineAnswer}
+use Rattle.answers.specs.declared.LineAnswer.{LineAnswer}
 use Rattle.reading.specs.declared.ReadInto.{ReadInto}
 use Rattle.writing.specs.declared.Written.{Written}
 use Rattle.sorting.specs.declared.Sorted.{Sorted}

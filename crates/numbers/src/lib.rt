@@ -1,14 +1,14 @@
-// A refusal, or how much there is of an answer, as one number.
+// Answers as one number each, for programs that link the library: a refusal, or how much there is of an answer.
+use answers::LineAnswer;
 use diffs::Compared;
 use diffs::Place;
 use diffs::Side;
-use lines::LineAnswer;
 use reading::ReadInto;
 use sorting::Sorted;
 use writing::Written;
 ghost use mathlib.Core.Path.{_≡_};
 ghost use Prim.Native.Nat.{_<_, _≤_};
-ghost use Rattle.chanrelout.specs.Number.{refusalOrCount, lineNumber, readNumber, writtenNumber, sortNumber, diffNumber, sideNumber, placeNumber};
+ghost use Rattle.numbers.specs.Number.{refusalOrCount, lineNumber, readNumber, writtenNumber, sortNumber, diffNumber, sideNumber, placeNumber};
 
 fn refusal_or_count(refusal: u8, n: usize) -> u64
     requires { ⌜ n < 4294967296 ⌝ }
@@ -31,11 +31,11 @@ pub fn read_number(a: ReadInto) -> u64
     refusal_or_count(a.refusal, a.place)
 }
 
-pub fn written_number(a: Written) -> u64
-    requires { ⌜ a .len < 4294967296 ⌝ }
-    ensures { λ r. ⌜ r ≡ writtenNumber a ⌝ }
+pub fn written_number(w: Written) -> u64
+    requires { ⌜ w .len < 4294967296 ⌝ }
+    ensures { λ r. ⌜ r ≡ writtenNumber w ⌝ }
 {
-    refusal_or_count(a.refusal, a.len)
+    refusal_or_count(w.refusal, w.len)
 }
 
 pub fn sort_number(s: Sorted) -> u64

@@ -5,10 +5,10 @@ use native.Mathlib.Omega.{arith}
 use borrow.Author.Tests.{ne-eqb}
 use Rattle.values.specs.Value.{kindAt}
 use Rattle.words.proofs.Tables.{own-place, typed}
-use Rattle.lines.specs.Program.{secondLength}
+use Rattle.answers.specs.Program.{secondLength}
 use borrow.Author.Needs.{needs}
-use Rattle.lines.proofs.second_len.Statement.{statement}
-use Rattle.lines.proofs.second_len.Tie as tie
+use Rattle.answers.proofs.second_len.Statement.{statement}
+use Rattle.answers.proofs.second_len.Tie as tie
 
 text-len-requires : tie.Need-text-len-requires
 text-len-requires c κs = search needs
