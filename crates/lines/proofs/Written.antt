@@ -15,10 +15,6 @@ module _ (room : ℕ) (line : List ℕ) where
   unfolding refusalOf answerOf refusalIn writtenIn
   in-room = Answer.in-room room (lineOf line)
 
-  pub written-most : length (writtenIn room line) ≤ 311
-  unfolding writtenIn
-  written-most = Answer.spelled-most room (lineOf line)
-
 pub answer-most : (line : List ℕ) → length (answerOf line) ≤ 311
 unfolding answerOf
 answer-most line = Answer.values-most (lineOf line)
