@@ -1,7 +1,5 @@
 // What a C or Rust program links: `rt staticlib chanrelout` writes target/staticlib/libchanrelout.a. Numbers pass as themselves, a slice as a
 // pointer and a length. bindings/ has the C header and the Rust crate.
-mod number;
-
 ghost use mathlib.Core.Path.{_≡_};
 ghost use lib.ListN.{length};
 ghost use Rattle.half.specs.Convert.{halfOf, singleOf};
@@ -15,7 +13,7 @@ ghost use Rattle.order.specs.Order as order;
 ghost use Rattle.sorting.specs.Sorting.{sortedOf, indexIn};
 ghost use Rattle.diffs.specs.Diffs.{comparedIn, kindsIn};
 ghost use Rattle.diffs.specs.Places.{firstPlace};
-ghost use Rattle.chanrelout.specs.Number.{lineNumber, readNumber, writtenNumber, sortNumber, diffNumber, placeNumber};
+ghost use Rattle.numbers.specs.Number.{lineNumber, readNumber, writtenNumber, sortNumber, diffNumber, placeNumber};
 
 // Folds a line of 01 into its answer, without newlines. Answers the refusal's number times 2^32, or the length of what was written.
 #[no_mangle]
@@ -24,7 +22,7 @@ pub extern "C" fn chanrelout_line(line: &[u8], out: &mut [u8]) -> u64
         × (now (out .exit) ≡ put (now (out .entry)) 0 (text.writtenIn (length (now (out .entry))) (now (line .entry)))) ⌝ }
 {
     let a = lines::fold_line(line, out);
-    number::line_number(a)
+    numbers::line_number(a)
 }
 
 // Folds a call of words into the words of its answer. Answers the refusal's number, 0 where there is none.
@@ -43,7 +41,7 @@ pub extern "C" fn chanrelout_read_value(text: &[u8], value: &mut [u64]) -> u64
         × (now (value .exit) ≡ put (now (value .entry)) 0 (wordsIn (length (now (value .entry))) (now (text .entry)))) ⌝ }
 {
     let a = reading::read_into(text, value);
-    number::read_number(a)
+    numbers::read_number(a)
 }
 
 // Writes the text of the value of these words. Answers the refusal's number times 2^32, or the length of what was written.
@@ -53,7 +51,7 @@ pub extern "C" fn chanrelout_write_value(value: &[u64], out: &mut [u8]) -> u64
         × (now (out .exit) ≡ put (now (out .entry)) 0 (textIn (length (now (out .entry))) (valueAt (now (value .entry)) 0))) ⌝ }
 {
     let a = writing::write_into(value, out);
-    number::written_number(a)
+    numbers::written_number(a)
 }
 
 // How the value of the words a stands to that of b in the one order: 0 before, 1 the same, 2 after, 3 where one is not well formed.
@@ -74,7 +72,7 @@ pub extern "C" fn chanrelout_sort(listing: &[u8], index: &mut [u16]) -> u64
         × (now (index .exit) ≡ put (now (index .entry)) 0 (indexIn (length (now (index .entry))) (now (listing .entry)))) ⌝ }
 {
     let s = sorting::sort_listing(listing, index);
-    number::sort_number(s)
+    numbers::sort_number(s)
 }
 
 // Writes the kind of each line of two listings, 0 where it is the same in both. Answers the refusal's number times 2^32, or how many lines the
@@ -85,7 +83,7 @@ pub extern "C" fn chanrelout_diff(left: &[u8], right: &[u8], kinds: &mut [u8]) -
         × (now (kinds .exit) ≡ put (now (kinds .entry)) 0 (kindsIn (length (now (kinds .entry))) (now (left .entry)) (now (right .entry)))) ⌝ }
 {
     let c = diffs::compare_listings(left, right, kinds);
-    number::diff_number(c)
+    numbers::diff_number(c)
 }
 
 // Where the first line that differs stands: its listing, 1 left and 2 right, times 2^32, its place there times 2^16, and its length; 0 where
@@ -95,7 +93,7 @@ pub extern "C" fn chanrelout_first_difference(left: &[u8], right: &[u8]) -> u64
     ensures { λ r. ⌜ r ≡ placeNumber (firstPlace (now (left .entry)) (now (right .entry))) ⌝ }
 {
     let p = diffs::first_place(left, right);
-    number::place_number(p)
+    numbers::place_number(p)
 }
 
 // The half nearest to an f32, both as bits.

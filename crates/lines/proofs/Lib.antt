@@ -1,2 +1,1 @@
-pub mod Tabs
 pub mod Written

@@ -1,13 +1,13 @@
 -- What a line gives: 01, "Lines". Definitions only.
 use Prim.Native.Nat.{ℕ}
 use mathlib.Core.Bool.{cond}
-use mathlib.Core.List.{List, [], _∷_, _++_}
-use lib.Dec.{ltb, eqb}
+use mathlib.Core.List.{List}
+use lib.Dec.{ltb}
 use lib.ListN.{length}
 use Rattle.values.specs.declared.Kind.{Kind}
 use Rattle.values.specs.declared.Kind.the-variants.{Empty}
 use Rattle.values.specs.declared.Value.{Value}
-use Rattle.values.specs.Value.{emptyValue, isType}
+use Rattle.values.specs.Value.{emptyValue}
 use Rattle.calls.specs.declared.Builtin.{Builtin}
 use Rattle.calls.specs.declared.Builtin.the-variants.{Bitcast}
 use Rattle.calls.specs.declared.Call.{Call}
@@ -16,10 +16,10 @@ use Rattle.builtins.specs.Fold.{refused, foldOf}
 use Rattle.buffers.specs.Text.{sameBytes}
 use Rattle.spelling.specs.Types.{kindOf}
 use Rattle.spelling.specs.Read.{readValue}
-use Rattle.spelling.specs.Write.{textOf}
-use Rattle.lines.specs.declared.LineAnswer.{LineAnswer}
-use Rattle.lines.specs.Fields.{tab, fieldAt, argumentCount}
 use Rattle.names.specs.Names.{nameOf, builtinOf}
+use Rattle.fields.specs.Fields.{fieldAt, argumentCount}
+use Rattle.answers.specs.declared.LineAnswer.{LineAnswer}
+use Rattle.answers.specs.Answers.{valuesText, toldIn, spelledIn, answeredIn}
 
 -- ---- the call that a line spells: a misspelled or missing value is the empty one there, and so refused in 3's place
 
@@ -53,22 +53,16 @@ lineOf line = cond (ltb mostBytes (length line)) (refused 7) (foldOf (callOf lin
 unfoldable pub refusalOf : List ℕ → ℕ
 refusalOf line = lineOf line .refusal
 
--- "frexp answers two fields"
-unfoldable pub secondText : Value → List ℕ
-secondText v = cond (isType (v .kind)) (tab ∷ textOf v) []
-
 unfoldable pub answerOf : List ℕ → List ℕ
-answerOf line = textOf (lineOf line .first) ++ secondText (lineOf line .second)
+answerOf line = valuesText (lineOf line)
 
 -- ---- a line's answer in lent memory of a size
 
--- "8: the lent output is shorter than the answer line without newline"
 unfoldable pub refusalIn : ℕ → List ℕ → ℕ
-refusalIn room line = cond (eqb (refusalOf line) 0) (cond (ltb room (length (answerOf line))) 8 0) (refusalOf line)
+refusalIn room line = toldIn room (lineOf line)
 
--- "Each refusal .. leaves the lent output as found; an answer changes no byte past its own, and writes no newline."
 unfoldable pub writtenIn : ℕ → List ℕ → List ℕ
-writtenIn room line = cond (eqb (refusalIn room line) 0) (answerOf line) []
+writtenIn room line = spelledIn room (lineOf line)
 
 unfoldable pub lineAnswer : ℕ → List ℕ → LineAnswer
-lineAnswer room line = record { refusal = refusalIn room line; len = length (writtenIn room line) }
+lineAnswer room line = answeredIn room (lineOf line)

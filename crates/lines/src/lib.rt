@@ -1,28 +1,16 @@
 // A line folded: the call that its fields spell, as words, and the answer's text in lent memory.
-mod fields;
-
+use answers::LineAnswer;
 ghost use mathlib.Core.Path.{_≡_};
-ghost use Prim.Native.Nat.{ℕ, _+_, _≤_, _<_};
-ghost use mathlib.Core.List.{List};
 ghost use lib.ListN.{length};
-ghost use Rattle.values.specs.Value.{kindAt};
 ghost use Rattle.buffers.specs.Memory.{put};
-ghost use Rattle.words.specs.Words.{valueAt};
 ghost use Rattle.calls.specs.Table.{builtinAt};
 ghost use Rattle.calls.specs.Words as Words;
 ghost use Rattle.spelling.specs.Hex.{DigitTable};
-ghost use Rattle.lines.specs.Fields.{fieldAt, argumentCount};
-ghost use Rattle.lines.specs.Line.{castCall, plainCall, callOf, lineOf, secondText, lineAnswer, writtenIn};
-ghost use Rattle.lines.specs.Program.{Answers, secondLength};
+ghost use Rattle.fields.specs.Fields.{fieldAt, argumentCount};
+ghost use Rattle.lines.specs.Line.{castCall, plainCall, callOf, lineAnswer, writtenIn};
 
 // A longer line is refused.
 pub const MOST_BYTES: usize = 400;
-
-// A line's answer in lent memory: its length, or the number of the refusal.
-pub struct LineAnswer {
-    pub refusal: u8,
-    pub len: usize,
-}
 
 // ---- the call that a line spells, as words
 
@@ -80,50 +68,7 @@ fn put_call(w: &mut [u64], line: &[u8])
     }
 }
 
-// ---- its answer, written
-
-// How many bytes spell a second value of the type at p: none where there is none.
-fn second_len(p: u64) -> usize
-    requires { ⌜ p < 39 ⌝ }
-    ensures { λ r. ⌜ (r ≡ secondLength (kindAt p)) × (r ≤ 156) ⌝ }
-{
-    if p == 0 { 0 } else { writing::text_len(p) + 1 }
-}
-
-// A tab and the second value of an answer's words, where there is one; answers the next place.
-fn put_second(out: &mut [u8], at: usize, a: &[u64]) -> usize
-    requires { ⌜ at + length (secondText (valueAt (now a) 17)) ≤ length (now out) ⌝ }
-    ensures { λ r. ⌜ (r ≡ at + length (secondText (valueAt (now (a .entry)) 17))) × (now (out .exit) ≡ put (now (out .entry)) at (secondText (valueAt (now (a .entry)) 17))) ⌝ }
-{
-    if words::place_at(a, 17) == 0 {
-        return at;
-    }
-    let next = buffers::put_bytes(out, at, b"\t");
-    writing::put_value(out, next, a, 17)
-}
-
-// The answer whose words are a, written at the start of the lent memory; a refusal leaves the memory as it is.
-fn put_answer(out: &mut [u8], refusal: u8, a: &[u64]) -> LineAnswer
-    ensures { λ r. ⌜ ((line : List ℕ) → Answers refusal (now (a .entry)) (lineOf line) → (r ≡ lineAnswer (length (now (out .entry))) line)
-        × (now (out .exit) ≡ put (now (out .entry)) 0 (writtenIn (length (now (out .entry))) line))) ⌝ }
-{
-    if refusal != 0 {
-        return LineAnswer {
-            refusal: refusal,
-            len: 0,
-        };
-    }
-    let first = writing::text_len(words::place_at(a, 0));
-    if out.len() < first + second_len(words::place_at(a, 17)) {
-        return LineAnswer { refusal: 8, len: 0 };
-    }
-    let next = writing::put_value(out, 0, a, 0);
-    let len = put_second(out, next, a);
-    LineAnswer {
-        refusal: 0,
-        len: len,
-    }
-}
+// ---- its answer
 
 // Folds a line. The answer is written at the start of the lent memory, without a newline; a refusal leaves the memory as it is.
 pub fn fold_line(line: &[u8], out: &mut [u8]) -> LineAnswer
@@ -137,5 +82,5 @@ pub fn fold_line(line: &[u8], out: &mut [u8]) -> LineAnswer
     put_call(&mut call, line);
     let mut answer: [u64; 34] = [0; 34];
     let refusal = builtins::fold(&call, &mut answer);
-    put_answer(out, refusal, &answer)
+    answers::put_answer(out, refusal, &answer)
 }

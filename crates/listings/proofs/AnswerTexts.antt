@@ -19,7 +19,7 @@ use Rattle.spelling.specs.Read.{readValue, found, wrong}
 use Rattle.spelling.specs.Write.{textOf}
 use Rattle.spelling.proofs.ReadsBack.{read-back}
 use Rattle.spelling.proofs.TextBytes.{text-tabless}
-use Rattle.lines.specs.Fields.{tab, fields}
+use Rattle.fields.specs.Fields.{tab, fields}
 use Rattle.stream.specs.Printed.{digits, places, refusedText}
 use Rattle.stream.proofs.Puts.{length-digits}
 use Rattle.stream.proofs.Answers.{refused-some}

@@ -17,8 +17,8 @@ use Rattle.spelling.specs.declared.Fault.the-variants.{Nothing, TypeSpelling, L
 use Rattle.spelling.specs.Read.{readValue}
 use Rattle.spelling.specs.Write.{textOf}
 use Rattle.spelling.proofs.WrittenSo.{written-so}
-use Rattle.lines.specs.Fields.{tab, fields, onFirst}
-use Rattle.lines.specs.Line.{secondText}
+use Rattle.fields.specs.Fields.{tab, fields, onFirst}
+use Rattle.answers.specs.Answers.{secondText}
 use Rattle.listings.specs.declared.Answered.{Answered}
 use Rattle.listings.specs.Answers.{noAnswer, refusedLine, valuesLine, isNumber, isPair, faultless, saysRefused, loneLine, pairLine, ofFields, readAnswer}
 use Rattle.listings.proofs.Parted.{some}

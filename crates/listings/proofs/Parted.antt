@@ -7,8 +7,8 @@ use native.Mathlib.Omega.{arith}
 use lib.ListN.{length, take, drop, length-drop}
 use lib.Seq.{take-all}
 use borrow.Author.Tests.{lt-ltb, le-ltb}
-use Rattle.lines.specs.Fields.{fields}
-use Rattle.lines.proofs.Tabs.{tabAt, cut}
+use Rattle.fields.specs.Fields.{fields}
+use Rattle.fields.proofs.Tabs.{tabAt, cut}
 use Rattle.listings.specs.Answers.{noAnswer, ofFields}
 
 pub whole : (s : List ℕ) → tabAt s ≡ length s → fields s ≡ s ∷ []

@@ -26,9 +26,10 @@ use Rattle.buffers.proofs.FirstPlace.{without, place-after}
 use Rattle.spelling.specs.Write.{textOf}
 use Rattle.spelling.proofs.WrittenSo.{read-lanes}
 use Rattle.spelling.proofs.TextBytes.{text-without}
-use Rattle.lines.specs.Fields.{tab, fieldAt, argumentCount}
+use Rattle.fields.specs.Fields.{tab, fieldAt, argumentCount}
 use Rattle.names.specs.Names.{nameOf, builtinOf}
-use Rattle.lines.specs.Line.{plainCall, castCall, callOf, mostBytes, lineOf, refusalOf, secondText, answerOf}
+use Rattle.lines.specs.Line.{plainCall, castCall, callOf, mostBytes, lineOf, refusalOf, answerOf}
+use Rattle.answers.specs.Answers.{secondText, valuesText}
 use Rattle.stream.specs.Lines.{lines}
 use Rattle.stream.specs.Printed.{places, digits, refusedText, answerText, answerLine, answerLines, printed}
 use Rattle.stream.proofs.Cut.{lines-ended}
@@ -68,7 +69,7 @@ answer-ok a h =
     ]
 
 pub printed-answer : (l : List ℕ) → readAnswer (answerText l) .ok ≡ true
-unfolding answerText answerOf refusedLine
+unfolding answerText answerOf valuesText refusedLine
 printed-answer l = by (eqb (refusalOf l) 0) refl
   where
     by : (b : Bool) → eqb (refusalOf l) 0 ≡ b → readAnswer (cond b (answerOf l) (refusedText (refusalOf l))) .ok ≡ true
@@ -94,7 +95,7 @@ refused-unbroken n = by (eqb n 0)
     by false = decimal-without 10 (lit< tt) (digits (places n) n) (digits-decimal (places n) n)
 
 answer-unbroken : (l : List ℕ) → without 10 (answerText l) ≡ true
-unfolding answerText answerOf
+unfolding answerText answerOf valuesText
 answer-unbroken l = by (eqb (refusalOf l) 0)
   where
     by : (b : Bool) → without 10 (cond b (answerOf l) (refusedText (refusalOf l))) ≡ true

@@ -15,7 +15,7 @@ use Rattle.spelling.specs.declared.Fault.the-variants.{Nothing, TypeSpelling, L
 use Rattle.spelling.specs.declared.Reading.{Reading}
 use Rattle.spelling.specs.Read.{readValue}
 use Rattle.buffers.specs.Text.{byte, bytes, sameBytes}
-use Rattle.lines.specs.Fields.{fields}
+use Rattle.fields.specs.Fields.{fields}
 use Rattle.listings.specs.declared.Answered.{Answered}
 
 -- "a line that is no answer line"

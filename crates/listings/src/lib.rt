@@ -8,7 +8,7 @@ ghost use mathlib.Core.Bool.{cond};
 ghost use mathlib.Core.List.{[], _∷_};
 ghost use lib.ListN.{drop};
 ghost use Rattle.values.specs.Value.{every};
-ghost use Rattle.lines.specs.Fields.{fields};
+ghost use Rattle.fields.specs.Fields.{fields};
 ghost use Rattle.spelling.specs.Read.{readValue};
 ghost use Rattle.listings.specs.Answers.{noAnswer, refusedLine, valuesLine, decimalDigit, isNumber, isPair, faultless, loneLine, pairLine, saysRefused, ofFields, readAnswer};
 ghost use Rattle.listings.specs.Listing.{lineAt, nextAt, judgedListing};

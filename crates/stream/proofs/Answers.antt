@@ -10,7 +10,8 @@ use borrow.Author.Tests.{eq-eqb, ne-eqb, eqb-true, eqb-false}
 use Rattle.stream.specs.Printed.{places, digits, refusedText, answerText, answerLine}
 use Rattle.lines.specs.Line.{refusalOf, answerOf, refusalIn, writtenIn, lineAnswer}
 use Rattle.stream.specs.Stream.{lineRoom, mostText}
-use Rattle.lines.specs.declared.LineAnswer.{LineAnswer}
+use Rattle.answers.specs.declared.LineAnswer.{LineAnswer}
+use Rattle.answers.specs.Answers.{answeredIn}
 use Rattle.lines.proofs.Written.{in-refused, in-room, answer-most}
 use Rattle.stream.proofs.Puts.{length-digits}
 
@@ -71,11 +72,11 @@ text-in room l h = by (eqb (refusalOf l) 0) refl
 -- the same of the record that a line's answer is
 module _ (room : ℕ) (l : List ℕ) {r : LineAnswer} (e : r ≡ lineAnswer room l) (h : mostText ≤ room) where
   pub text-of : writtenIn room l ++ refusedText (r .refusal) ≡ answerText l
-  unfolding lineAnswer
+  unfolding lineAnswer refusalIn answeredIn
   text-of = rw e (text-in room l h)
 
   pub written-of : r .len ≡ length (writtenIn room l)
-  unfolding lineAnswer
+  unfolding lineAnswer writtenIn answeredIn
   written-of = rw e
 
   pub fit-of : r .len + length (refusedText (r .refusal)) ≡ length (answerText l)

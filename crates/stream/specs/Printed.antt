@@ -4,7 +4,7 @@ use mathlib.Core.Bool.{Bool, cond}
 use mathlib.Core.List.{List, [], _∷_, _++_}
 use lib.Dec.{ltb, eqb}
 use Rattle.buffers.specs.Text.{bytes}
-use Rattle.lines.specs.Fields.{tab}
+use Rattle.fields.specs.Fields.{tab}
 use Rattle.lines.specs.Line.{refusalOf, answerOf}
 use Rattle.stream.specs.Lines.{lines, afterNewline}
 

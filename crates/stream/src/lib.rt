@@ -1,5 +1,5 @@
 // Lines of a buffer, answered one after another, and what of the buffer is kept for later.
-use lines::LineAnswer;
+use answers::LineAnswer;
 ghost use mathlib.Core.Path.{_≡_};
 ghost use mathlib.Core.List.{[], _∷_};
 ghost use mathlib.Core.Bool.{cond};

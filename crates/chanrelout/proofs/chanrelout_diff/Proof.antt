@@ -3,7 +3,7 @@ use mathlib.Core.Path.{ap, _∙_}
 use native.Mathlib.Omega.{arith}
 use lib.ListN.{length}
 use Rattle.diffs.proofs.AllParts.{count-few}
-use Rattle.chanrelout.specs.Number.{diffNumber}
+use Rattle.numbers.specs.Number.{diffNumber}
 use borrow.Author.Needs.{needs}
 use Rattle.chanrelout.proofs.chanrelout_diff.Statement.{statement}
 use Rattle.chanrelout.proofs.chanrelout_diff.Tie as tie

@@ -2,7 +2,7 @@
 use mathlib.Core.Path.{ap, _∙_}
 use native.Mathlib.Omega.{arith}
 use Rattle.diffs.proofs.FirstLine.{place-few}
-use Rattle.chanrelout.specs.Number.{placeNumber}
+use Rattle.numbers.specs.Number.{placeNumber}
 use borrow.Author.Needs.{needs}
 use Rattle.chanrelout.proofs.chanrelout_first_difference.Statement.{statement}
 use Rattle.chanrelout.proofs.chanrelout_first_difference.Tie as tie

@@ -3,10 +3,11 @@ use mathlib.Core.Path.{ap, _∙_}
 use native.Mathlib.Omega.{arith}
 use lib.ListN.{length}
 use borrow.Author.Needs.{needs}
-use Rattle.lines.specs.declared.LineAnswer.{LineAnswer}
-use Rattle.lines.specs.Line.{lineAnswer}
-use Rattle.lines.proofs.Written.{written-most}
-use Rattle.chanrelout.specs.Number.{lineNumber}
+use Rattle.answers.specs.declared.LineAnswer.{LineAnswer}
+use Rattle.answers.specs.Answers.{answeredIn}
+use Rattle.answers.proofs.Written.{spelled-most}
+use Rattle.lines.specs.Line.{lineOf, lineAnswer}
+use Rattle.numbers.specs.Number.{lineNumber}
 use Rattle.chanrelout.proofs.chanrelout_line.Statement.{statement}
 use Rattle.chanrelout.proofs.chanrelout_line.Tie as tie
 
@@ -14,10 +15,10 @@ fold-line-requires : tie.Need-fold-line-requires
 fold-line-requires c κs = search needs
 
 line-number-requires : tie.Need-line-number-requires
-unfolding lineAnswer
+unfolding lineAnswer answeredIn
 line-number-requires c κs =
     let a = c .before .before .before .before .before .before .args in
-    omega (arith, written-most (length (a .out .now)) (a .line .now), ap (λ (x : LineAnswer). x .len) (c .before .before .fold-line .ensures .0))
+    omega (arith, spelled-most (length (a .out .now)) (lineOf (a .line .now)), ap (λ (x : LineAnswer). x .len) (c .before .before .fold-line .ensures .0))
 
 same-length : tie.Need-same-length
 same-length c = search needs

@@ -5,7 +5,7 @@ use lib.ListN.{length}
 use borrow.Author.Needs.{needs}
 use Rattle.reading.proofs.IntoWords.{place-few}
 use Rattle.reading.specs.declared.ReadInto.{ReadInto}
-use Rattle.chanrelout.specs.Number.{readNumber}
+use Rattle.numbers.specs.Number.{readNumber}
 use Rattle.chanrelout.proofs.chanrelout_read_value.Statement.{statement}
 use Rattle.chanrelout.proofs.chanrelout_read_value.Tie as tie
 

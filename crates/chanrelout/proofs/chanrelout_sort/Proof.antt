@@ -3,7 +3,7 @@ use mathlib.Core.Path.{ap, _∙_}
 use native.Mathlib.Omega.{arith}
 use lib.ListN.{length}
 use Rattle.sorting.proofs.Refusals.{count-few}
-use Rattle.chanrelout.specs.Number.{sortNumber}
+use Rattle.numbers.specs.Number.{sortNumber}
 use borrow.Author.Needs.{needs}
 use Rattle.chanrelout.proofs.chanrelout_sort.Statement.{statement}
 use Rattle.chanrelout.proofs.chanrelout_sort.Tie as tie

@@ -6,7 +6,7 @@ use borrow.Author.Needs.{needs}
 use Rattle.words.specs.Words.{valueAt}
 use Rattle.writing.proofs.Told.{length-few}
 use Rattle.writing.specs.declared.Written.{Written}
-use Rattle.chanrelout.specs.Number.{writtenNumber}
+use Rattle.numbers.specs.Number.{writtenNumber}
 use Rattle.chanrelout.proofs.chanrelout_write_value.Statement.{statement}
 use Rattle.chanrelout.proofs.chanrelout_write_value.Tie as tie
 

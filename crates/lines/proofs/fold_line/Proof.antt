@@ -11,9 +11,9 @@ use Rattle.builtins.specs.declared.Answer.{Answer}
 use Rattle.builtins.specs.Fold.{refused, foldOf}
 use Rattle.builtins.specs.Words as Told
 use Rattle.formed.proofs.AnswerWords.{answer-words}
-use Rattle.lines.specs.Line.{callOf, lineOf}
-use Rattle.lines.specs.Program.{Answers}
-use Rattle.lines.proofs.Written.{refused-so}
+use Rattle.answers.specs.Program.{Answers}
+use Rattle.answers.proofs.Written.{refused-so}
+use Rattle.lines.specs.Line.{callOf, lineOf, writtenIn, lineAnswer}
 use borrow.Author.Needs.{needs}
 use Rattle.lines.proofs.fold_line.Statement.{statement}
 use Rattle.lines.proofs.fold_line.Tie as tie
@@ -32,10 +32,10 @@ answers : (line w o : List ℕ) {r : ℕ} {o′ : List ℕ} → length line ≤ 
 answers line w o h e k er eo = rw (not-long line h, ← e) (answer-words w o k er eo)
 
 returns : tie.Need-returns
-unfolding refused
+unfolding refused writtenIn lineAnswer
 returns c =
     let line = c .before .before .before .args .line .now in
-    refused-so (c .before .before .before .args .out .now) line (ap (λ (a : Answer). a .refusal) (sym (too-long line (omega arith)))) (λ z. omega arith)
+    refused-so (c .before .before .before .args .out .now) (lineOf line) (ap (λ (a : Answer). a .refusal) (sym (too-long line (omega arith)))) (λ z. omega arith)
 
 slice-aggregate-put-call : tie.Need-slice-aggregate-put-call
 slice-aggregate-put-call c = search needs
@@ -62,10 +62,11 @@ same-length : tie.Need-same-length
 same-length c = search needs
 
 returns-2 : tie.Need-returns-2
+unfolding writtenIn lineAnswer
 returns-2 c =
     let line = c .before .before .before .before .before .before .before .before .before .before .before .before .before .before .before .args .line .now in
     let f = c .before .before .before .before .before .before .fold in
-    c .before .before .put-answer .ensures line (answers line (c .before .before .before .before .before .before .before .before .before .before .put-call .last .0) (replicate 34 0) (omega arith) (c .before .before .before .before .before .before .before .before .before .before .put-call .ensures) (omega arith) (f .ensures .0) (f .ensures .1))
+    c .before .before .put-answer .ensures (lineOf line) (answers line (c .before .before .before .before .before .before .before .before .before .before .put-call .last .0) (replicate 34 0) (omega arith) (c .before .before .before .before .before .before .before .before .before .before .put-call .ensures) (omega arith) (f .ensures .0) (f .ensures .1))
 
 pub fold-line-spec : {M : Type 1} → statement M
 fold-line-spec =

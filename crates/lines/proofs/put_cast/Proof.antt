@@ -7,7 +7,7 @@ use Rattle.calls.proofs.CallWords.{call-there}
 use Rattle.spelling.specs.Read.{readValue}
 use Rattle.spelling.proofs.WrittenSo.{read-lanes}
 use Rattle.lines.specs.Line.{castCall}
-use Rattle.lines.proofs.Tabs.{Off, tabAt, field-length, next-length, third}
+use Rattle.fields.proofs.Tabs.{Off, tabAt, field-length, next-length, third}
 use borrow.Author.Needs.{needs}
 use Rattle.lines.proofs.put_cast.Statement.{statement}
 use Rattle.lines.proofs.put_cast.Tie as tie

@@ -10,7 +10,7 @@ use Rattle.calls.proofs.CallWords.{call-there}
 use Rattle.spelling.specs.Read.{readValue}
 use Rattle.spelling.proofs.WrittenSo.{read-lanes}
 use Rattle.lines.specs.Line.{plainCall}
-use Rattle.lines.proofs.Tabs.{Apart, tabAt, apart, count-most, field-length}
+use Rattle.fields.proofs.Tabs.{Apart, tabAt, apart, count-most, field-length}
 use borrow.Author.Needs.{needs}
 use Rattle.lines.proofs.put_plain.Statement.{statement}
 use Rattle.lines.proofs.put_plain.Tie as tie
