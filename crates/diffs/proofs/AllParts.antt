@@ -8,8 +8,8 @@ use borrow.Author.Tests.{eqb-true, ltb-true, ltb-false, le-ltb}
 use lib.Dec.{ltb, eqb}
 use lib.ListN.{length, take, drop, length-take, length-drop, take-append-drop, drop-of-length-le}
 use lib.Seq.{drop-drop}
-use Rattle.stream.specs.Lines.{lines, onFirst}
-use Rattle.stream.specs.Printed.{refusedText}
+use Rattle.cutting.specs.Lines.{lines, onFirst}
+use Rattle.printing.specs.Decimal.{refusedText}
 use Rattle.listings.specs.Listing.{longestListing}
 use Rattle.diffs.specs.Diffs.{diffRefusal, kindsOf, diffRefusalIn, kindsIn, comparedIn}
 use Rattle.diffs.specs.declared.Compared.{Compared}

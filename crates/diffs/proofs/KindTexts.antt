@@ -9,8 +9,8 @@ use lib.Dec.{ltb, eqb}
 use lib.ListN.{length, length-append}
 use Rattle.buffers.specs.Memory.{put}
 use Rattle.buffers.proofs.Puts.{Made, Tried, made, both-made, room-left}
-use Rattle.stream.specs.Printed.{digits}
-use Rattle.stream.proofs.Puts.{length-digits}
+use Rattle.printing.specs.Decimal.{digits}
+use Rattle.printing.proofs.Digits.{length-digits}
 use Rattle.diffs.specs.Text.{numberPlaces, wordAt, kindText}
 
 -- ---- words

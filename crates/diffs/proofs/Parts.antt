@@ -13,8 +13,8 @@ use Rattle.values.proofs.Bools.{both}
 use Rattle.buffers.specs.Memory.{put}
 use Rattle.buffers.proofs.Puts.{Made, put-nil, put-put, put-length}
 use Rattle.stream.specs.Stream.{space}
-use Rattle.stream.specs.Printed.{refusedText}
-use Rattle.stream.proofs.Answers.{refused-le}
+use Rattle.printing.specs.Decimal.{refusedText}
+use Rattle.printing.proofs.Digits.{refused-le}
 use Rattle.diffs.specs.declared.DiffPart.{DiffPart}
 use Rattle.diffs.specs.Text.{kindText, kindsText, partLines, partKinds, diffPartText, diffPartOf}
 use Rattle.diffs.proofs.KindTexts.{line-room}

@@ -5,7 +5,7 @@ use mathlib.Core.List.{List, [], _∷_, _++_, map}
 use lib.Dec.{ltb, eqb}
 use lib.ListN.{length, take, drop, getD}
 use Rattle.lines.specs.Fields.{tab}
-use Rattle.stream.specs.Printed.{digits, refusedText}
+use Rattle.printing.specs.Decimal.{digits, refusedText}
 use Rattle.kinds.specs.declared.Difference.the-variants.{Alike, Missing, Refusal, OtherType, OtherValue, NanBits, ZeroSign}
 use Rattle.kinds.specs.Kinds.{kindWord}
 use Rattle.diffs.specs.declared.DiffPart.{DiffPart}

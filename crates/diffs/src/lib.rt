@@ -179,10 +179,10 @@ fn put_kind(out: &mut [u8], at: usize, n: usize, kind: u8) -> usize
     if (kind == 0) | (kind > 6) {
         return at;
     }
-    let a = stream::put_digits(out, at, places_of(n), n);
-    let b = stream::put_byte(out, a, 9);
+    let a = printing::put_digits(out, at, places_of(n), n);
+    let b = printing::put_byte(out, a, 9);
     let c = put_word(out, b, kind);
-    stream::put_byte(out, c, 10)
+    printing::put_byte(out, c, 10)
 }
 
 // The part of the text that follows the lines that are done, or the refusal alone.
@@ -191,10 +191,10 @@ pub fn diff_part(refusal: u8, kinds: &[u8], done: usize, out: &mut Space) -> Dif
         × (r .used ≤ space) ⌝ }
 {
     if refusal != 0 {
-        let e = stream::put_refusal(out, 0, refusal);
+        let e = printing::put_refusal(out, 0, refusal);
         return DiffPart {
             done: kinds.len(),
-            used: stream::put_byte(out, e, 10),
+            used: printing::put_byte(out, e, 10),
         };
     }
     put_part(kinds, done, out)

@@ -8,8 +8,9 @@ ghost use mathlib.Core.Bool.{cond};
 ghost use mathlib.Core.Path.{_≡_};
 ghost use lib.ListN.{length, take};
 ghost use Rattle.buffers.specs.Memory.{put};
-ghost use Rattle.stream.specs.Stream.{space, stepLines, textOf, readOf};
-ghost use Rattle.stream.specs.Turns.{Filled, Turn, Pumped};
+ghost use Rattle.stream.specs.Stream.{space, stepLines, textOf};
+ghost use Rattle.inputs.specs.Runs.{readOf};
+ghost use Rattle.inputs.specs.Turns.{Filled, Turn, Pumped};
 
 // What is held after n bytes were read behind it.
 fn got(h: Held, n: usize) -> Held

@@ -1,6 +1,7 @@
 // A line folded: the call that its fields spell, as words, and the answer's text in lent memory.
 mod fields;
 
+use cutting::MOST_BYTES;
 ghost use mathlib.Core.Path.{_≡_};
 ghost use Prim.Native.Nat.{ℕ, _+_, _≤_, _<_};
 ghost use mathlib.Core.List.{List};
@@ -14,9 +15,6 @@ ghost use Rattle.spelling.specs.Hex.{DigitTable};
 ghost use Rattle.lines.specs.Fields.{fieldAt, argumentCount};
 ghost use Rattle.lines.specs.Line.{castCall, plainCall, callOf, lineOf, secondText, lineAnswer, writtenIn};
 ghost use Rattle.lines.specs.Program.{Answers, secondLength};
-
-// A longer line is refused.
-pub const MOST_BYTES: usize = 400;
 
 // A line's answer in lent memory: its length, or the number of the refusal.
 pub struct LineAnswer {

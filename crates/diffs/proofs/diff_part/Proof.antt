@@ -3,7 +3,7 @@ use mathlib.Core.List.{[], _∷_}
 use native.Mathlib.Omega.{arith}
 use lib.ListN.{length-append}
 use Rattle.buffers.proofs.Puts.{both-made, room-left}
-use Rattle.stream.specs.Printed.{refusedText}
+use Rattle.printing.specs.Decimal.{refusedText}
 use Rattle.diffs.proofs.Parts.{refused-fits, refused-part}
 use borrow.Author.Needs.{needs}
 use Rattle.diffs.proofs.diff_part.Statement.{statement}

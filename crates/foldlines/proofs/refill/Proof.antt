@@ -1,5 +1,5 @@
 -- The bytes that were read stand behind what is held. Assumes nothing.
-use Rattle.stream.proofs.Turned.{filled}
+use Rattle.inputs.proofs.Turned.{filled}
 use borrow.Author.Needs.{needs}
 use Rattle.foldlines.proofs.refill.Statement.{statement}
 use Rattle.foldlines.proofs.refill.Tie as tie
