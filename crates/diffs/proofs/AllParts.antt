@@ -13,8 +13,9 @@ use Rattle.printing.specs.Decimal.{refusedText}
 use Rattle.listings.specs.Listing.{longestListing}
 use Rattle.diffs.specs.Diffs.{diffRefusal, kindsOf, diffRefusalIn, kindsIn, comparedIn}
 use Rattle.diffs.specs.declared.Compared.{Compared}
-use Rattle.diffs.specs.declared.DiffPart.{DiffPart}
-use Rattle.diffs.specs.Text.{kindText, kindsText, diffText, partLines, partKinds, diffPartText, diffPartOf, Told, goes, ends}
+use Rattle.telling.specs.declared.DiffPart.{DiffPart}
+use Rattle.telling.specs.Text.{kindText, kindsText, partLines, partKinds, diffPartText, diffPartOf, Told, goes, ends}
+use Rattle.diffs.specs.Text.{diffText}
 use Rattle.diffs.proofs.Walk.{kinds-count}
 use Rattle.diffs.proofs.Refusals.{granted}
 

@@ -4,10 +4,10 @@ use native.Mathlib.Omega.{arith}
 use lib.ListN.{length}
 use Rattle.buffers.specs.Memory.{put}
 use Rattle.buffers.proofs.Puts.{put-nil}
-use Rattle.diffs.proofs.KindTexts.{word-made, wordless}
+use Rattle.telling.proofs.KindTexts.{word-made, wordless}
 use borrow.Author.Needs.{needs}
-use Rattle.diffs.proofs.put_word.Statement.{statement}
-use Rattle.diffs.proofs.put_word.Tie as tie
+use Rattle.telling.proofs.put_word.Statement.{statement}
+use Rattle.telling.proofs.put_word.Tie as tie
 
 slice-aggregate-put-bytes : tie.Need-slice-aggregate-put-bytes
 slice-aggregate-put-bytes c = search needs

@@ -4,10 +4,10 @@ use native.Mathlib.Omega.{arith}
 use lib.ListN.{length-append}
 use Rattle.buffers.proofs.Puts.{both-made, room-left}
 use Rattle.printing.specs.Decimal.{refusedText}
-use Rattle.diffs.proofs.Parts.{refused-fits, refused-part}
+use Rattle.telling.proofs.Parts.{refused-fits, refused-part}
 use borrow.Author.Needs.{needs}
-use Rattle.diffs.proofs.diff_part.Statement.{statement}
-use Rattle.diffs.proofs.diff_part.Tie as tie
+use Rattle.telling.proofs.diff_part.Statement.{statement}
+use Rattle.telling.proofs.diff_part.Tie as tie
 
 put-refusal-requires : tie.Need-put-refusal-requires
 put-refusal-requires c κs = omega (arith, simp length-append at (refused-fits (c .before .before .before .args .refusal)))

@@ -15,9 +15,9 @@ use Rattle.buffers.proofs.Puts.{Made, put-nil, put-put, put-length}
 use Rattle.stream.specs.Stream.{space}
 use Rattle.printing.specs.Decimal.{refusedText}
 use Rattle.printing.proofs.Digits.{refused-le}
-use Rattle.diffs.specs.declared.DiffPart.{DiffPart}
-use Rattle.diffs.specs.Text.{kindText, kindsText, partLines, partKinds, diffPartText, diffPartOf}
-use Rattle.diffs.proofs.KindTexts.{line-room}
+use Rattle.telling.specs.declared.DiffPart.{DiffPart}
+use Rattle.telling.specs.Text.{kindText, kindsText, partLines, partKinds, diffPartText, diffPartOf}
+use Rattle.telling.proofs.KindTexts.{line-room}
 
 -- ---- a part, line by line
 

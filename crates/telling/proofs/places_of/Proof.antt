@@ -1,8 +1,8 @@
 -- Test by test. Assumes nothing.
 use borrow.Author.Tests.{lt-ltb, le-ltb}
-use Rattle.diffs.specs.Text.{numberPlaces}
-use Rattle.diffs.proofs.places_of.Statement.{statement}
-use Rattle.diffs.proofs.places_of.Tie as tie
+use Rattle.telling.specs.Text.{numberPlaces}
+use Rattle.telling.proofs.places_of.Statement.{statement}
+use Rattle.telling.proofs.places_of.Tie as tie
 
 returns : tie.Need-returns
 unfolding numberPlaces

@@ -4,10 +4,10 @@ use native.Mathlib.Omega.{arith}
 use lib.ListN.{length}
 use Rattle.buffers.specs.Memory.{put}
 use Rattle.buffers.proofs.Puts.{put-nil}
-use Rattle.diffs.proofs.KindTexts.{untold, number-room, tab-room, word-room, newline-room, line-made}
+use Rattle.telling.proofs.KindTexts.{untold, number-room, tab-room, word-room, newline-room, line-made}
 use borrow.Author.Needs.{needs}
-use Rattle.diffs.proofs.put_kind.Statement.{statement}
-use Rattle.diffs.proofs.put_kind.Tie as tie
+use Rattle.telling.proofs.put_kind.Statement.{statement}
+use Rattle.telling.proofs.put_kind.Tie as tie
 
 returns : tie.Need-returns
 returns c =

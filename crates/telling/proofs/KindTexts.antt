@@ -11,7 +11,7 @@ use Rattle.buffers.specs.Memory.{put}
 use Rattle.buffers.proofs.Puts.{Made, Tried, made, both-made, room-left}
 use Rattle.printing.specs.Decimal.{digits}
 use Rattle.printing.proofs.Digits.{length-digits}
-use Rattle.diffs.specs.Text.{numberPlaces, wordAt, kindText}
+use Rattle.telling.specs.Text.{numberPlaces, wordAt, kindText}
 
 -- ---- words
 

@@ -1,8 +1,8 @@
 -- The invariant: what is written and what is still to be written are the part; each turn writes a line. Assumes nothing.
 use native.Mathlib.Omega.{arith}
-use Rattle.diffs.proofs.Parts.{Partly, more-left, none-yet, line-fits, line-more, part-done}
-use Rattle.diffs.proofs.put_part.Statement.{statement}
-use Rattle.diffs.proofs.put_part.Tie as tie
+use Rattle.telling.proofs.Parts.{Partly, more-left, none-yet, line-fits, line-more, part-done}
+use Rattle.telling.proofs.put_part.Statement.{statement}
+use Rattle.telling.proofs.put_part.Tie as tie
 
 abbrev Inv-loop : tie.InvT-loop
 Inv-loop kinds done out₀ at₀ i₀ left₀ out at i left = Partly kinds done out₀ out at i left
