@@ -8,13 +8,14 @@ use borrow.Author.Tests.{eqb-true, ltb-true, ltb-false, le-ltb}
 use lib.Dec.{ltb, eqb}
 use lib.ListN.{length, take, drop, length-take, length-drop, take-append-drop, drop-of-length-le}
 use lib.Seq.{drop-drop}
-use Rattle.stream.specs.Lines.{lines, onFirst}
-use Rattle.stream.specs.Printed.{refusedText}
+use Rattle.cutting.specs.Lines.{lines, onFirst}
+use Rattle.printing.specs.Decimal.{refusedText}
 use Rattle.listings.specs.Listing.{longestListing}
 use Rattle.diffs.specs.Diffs.{diffRefusal, kindsOf, diffRefusalIn, kindsIn, comparedIn}
 use Rattle.diffs.specs.declared.Compared.{Compared}
-use Rattle.diffs.specs.declared.DiffPart.{DiffPart}
-use Rattle.diffs.specs.Text.{kindText, kindsText, diffText, partLines, partKinds, diffPartText, diffPartOf, Told, goes, ends}
+use Rattle.telling.specs.declared.DiffPart.{DiffPart}
+use Rattle.telling.specs.Text.{kindText, kindsText, partLines, partKinds, diffPartText, diffPartOf, Told, goes, ends}
+use Rattle.diffs.specs.Text.{diffText}
 use Rattle.diffs.proofs.Walk.{kinds-count}
 use Rattle.diffs.proofs.Refusals.{granted}
 

@@ -8,7 +8,7 @@ use borrow.Author.Tests.{eqb-true, ltb-true, ltb-false, le-ltb}
 use lib.Dec.{ltb, eqb}
 use lib.ListN.{length, take, drop, length-take, length-drop}
 use Rattle.buffers.specs.Text.{sameBytes}
-use Rattle.stream.specs.Lines.{lines, newlineAt}
+use Rattle.cutting.specs.Lines.{lines, newlineAt}
 use Rattle.listings.specs.Listing.{lineAt, nextAt, longestListing}
 use Rattle.listings.proofs.ListingLines.{lines-from, next-more}
 use Rattle.diffs.specs.declared.Side.{Side}

@@ -9,7 +9,7 @@ use lib.Dec.{ltb, eqb, leb·suc-suc}
 use lib.ListN.{length, getD}
 use Rattle.buffers.specs.Text.{sameBytes}
 use Rattle.buffers.proofs.Lookup.{same-true, same-itself, not-same}
-use Rattle.stream.specs.Lines.{lines}
+use Rattle.cutting.specs.Lines.{lines}
 use Rattle.kinds.specs.declared.Difference.{Difference}
 use Rattle.kinds.specs.declared.Difference.the-variants.{Alike, Missing, Refusal, OtherType, OtherValue, NanBits, ZeroSign}
 use Rattle.kinds.specs.Kinds.{kindNumber, lineKind}

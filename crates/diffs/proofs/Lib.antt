@@ -1,5 +1,3 @@
-pub mod KindTexts
-pub mod Parts
 pub mod Walk
 pub mod Refusals
 pub mod FirstLine

@@ -8,7 +8,7 @@ use borrow.Author.Tests.{eqb-false, ne-eqb, ltb-false}
 use lib.Dec.{ltb, eqb}
 use lib.ListN.{length}
 use Rattle.buffers.proofs.Puts.{Given, given-refused, given-short, given-room}
-use Rattle.stream.specs.Lines.{lines}
+use Rattle.cutting.specs.Lines.{lines}
 use Rattle.listings.specs.declared.Judged.{Judged}
 use Rattle.listings.specs.Listing.{longestListing, judgedListing}
 use Rattle.diffs.specs.declared.Compared.{Compared}

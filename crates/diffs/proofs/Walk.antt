@@ -11,7 +11,7 @@ use lib.Seq.{drop-length}
 use Rattle.buffers.specs.Text.{placeOf}
 use Rattle.buffers.specs.Memory.{put}
 use Rattle.buffers.proofs.Puts.{put-cons}
-use Rattle.stream.specs.Lines.{lines}
+use Rattle.cutting.specs.Lines.{lines}
 use Rattle.listings.specs.Listing.{lineAt, nextAt}
 use Rattle.listings.proofs.ListingLines.{lines-from}
 use Rattle.kinds.specs.declared.Difference.{Difference}

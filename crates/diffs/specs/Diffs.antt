@@ -5,7 +5,7 @@ use mathlib.Core.List.{List, [], _∷_, map}
 use lib.Dec.{ltb, eqb}
 use lib.ListN.{length}
 use Rattle.buffers.specs.Text.{sameBytes}
-use Rattle.stream.specs.Lines.{lines}
+use Rattle.cutting.specs.Lines.{lines}
 use Rattle.listings.specs.declared.Judged.{Judged}
 use Rattle.listings.specs.Listing.{judgedListing}
 use Rattle.kinds.specs.declared.Difference.{Difference}

@@ -5,7 +5,7 @@ use mathlib.Core.Bool.{cond}
 use mathlib.Core.List.{List, [], _∷_}
 use lib.Dec.{ltb, eqb}
 use lib.ListN.{length, getD}
-use Rattle.stream.specs.Lines.{lines}
+use Rattle.cutting.specs.Lines.{lines}
 use Rattle.diffs.specs.Diffs.{diffRefusal, kindsOf, firstDifference}
 
 -- the first entry that is told, counted from 0, or how many there are

@@ -53,7 +53,7 @@ fn print_parts(refusal: u8, kinds: &[u8], out: &mut Space) {
     let mut done: usize = 0;
     let mut more = true;
     while more {
-        let p = diffs::diff_part(refusal, kinds, done, out);
+        let p = telling::diff_part(refusal, kinds, done, out);
         print(out, p.used);
         more = p.done < kinds.len();
         done = p.done;

@@ -1,50 +1,14 @@
 // Prints the answer of each line of the standard input.
-use libc::STDIN_FILENO;
 use libc::STDOUT_FILENO;
 use stream::Held;
 use stream::Space;
-ghost use Prim.Native.Nat.{_+_, _-_, _^_, _≤_, _<_};
+ghost use Prim.Native.Nat.{_-_, _≤_, _<_};
 ghost use mathlib.Core.Bool.{cond};
 ghost use mathlib.Core.Path.{_≡_};
-ghost use lib.ListN.{length, take};
+ghost use lib.ListN.{length};
 ghost use Rattle.buffers.specs.Memory.{put};
-ghost use Rattle.stream.specs.Stream.{space, stepLines, textOf, readOf};
-ghost use Rattle.stream.specs.Turns.{Filled, Turn, Pumped};
-
-// What is held after n bytes were read behind it.
-fn got(h: Held, n: usize) -> Held
-    requires { ⌜ h .have + n < 2 ^ 64 ⌝ }
-    ensures { λ r. ⌜ r ≡ readOf h n ⌝ }
-{
-    Held {
-        at: h.at,
-        have: h.have + n,
-        used: 0,
-        skip: h.skip,
-        last: n == 0,
-        reads: false,
-        done: false,
-    }
-}
-
-// Reads behind the first `have` bytes, which stay; answers how many came.
-fn read_behind(buf: &mut [u8], have: usize) -> usize
-    requires { ⌜ have ≤ length (now buf) ⌝ }
-    ensures { λ r. ⌜ (have + r ≤ length (now (buf .entry))) × (length (now (buf .exit)) ≡ length (now (buf .entry)))
-        × (take have (now (buf .exit)) ≡ take have (now (buf .entry))) ⌝ }
-{
-    let answer = libc::read(STDIN_FILENO, &mut buf[have..]);
-    io::count(answer, &buf[have..])
-}
-
-// Reads behind what is held. There is room, so that reading nothing means the end of the input.
-fn refill(buf: &mut Space, h: Held) -> Held
-    requires { ⌜ (h .at ≤ h .have) × (h .have < space) ⌝ }
-    ensures { λ r. ⌜ Filled (now (buf .entry)) h (now (buf .exit)) r ⌝ }
-{
-    let n = read_behind(buf, h.have);
-    got(h, n)
-}
+ghost use Rattle.stream.specs.Stream.{stepLines, textOf};
+ghost use Rattle.inputs.specs.Turns.{Turn, Pumped};
 
 // Writes the first `used` bytes to the standard output.
 fn print(out: &[u8], used: usize)
@@ -61,7 +25,7 @@ fn turn(buf: &mut Space, out: &mut Space, h: Held) -> Held
     let r = stream::step(buf, out, h);
     print(out, r.used);
     if r.reads {
-        return refill(buf, r);
+        return filling::refill(buf, r);
     }
     r
 }

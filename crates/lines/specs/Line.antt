@@ -14,6 +14,7 @@ use Rattle.calls.specs.declared.Call.{Call}
 use Rattle.builtins.specs.declared.Answer.{Answer}
 use Rattle.builtins.specs.Fold.{refused, foldOf}
 use Rattle.buffers.specs.Text.{sameBytes}
+use Rattle.cutting.specs.Cutting.{mostBytes}
 use Rattle.spelling.specs.Types.{kindOf}
 use Rattle.spelling.specs.Read.{readValue}
 use Rattle.names.specs.Names.{nameOf, builtinOf}
@@ -42,9 +43,6 @@ callOf line =
     (plainCall (builtinOf (fieldAt line 0)) (argumentCount line) line)
 
 -- ---- its answer
-
-abbrev pub mostBytes : ℕ
-mostBytes = 400
 
 -- "7: the line has more than 400 bytes, newline not counted"
 unfoldable pub lineOf : List ℕ → Answer

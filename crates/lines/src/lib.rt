@@ -1,5 +1,6 @@
 // A line folded: the call that its fields spell, as words, and the answer's text in lent memory.
 use answers::LineAnswer;
+use cutting::MOST_BYTES;
 ghost use mathlib.Core.Path.{_≡_};
 ghost use lib.ListN.{length};
 ghost use Rattle.buffers.specs.Memory.{put};
@@ -9,8 +10,6 @@ ghost use Rattle.spelling.specs.Hex.{DigitTable};
 ghost use Rattle.fields.specs.Fields.{fieldAt, argumentCount};
 ghost use Rattle.lines.specs.Line.{castCall, plainCall, callOf, lineAnswer, writtenIn};
 
-// A longer line is refused.
-pub const MOST_BYTES: usize = 400;
 
 // ---- the call that a line spells, as words
 

@@ -20,9 +20,8 @@ use Rattle.spelling.specs.Write.{textOf}
 use Rattle.spelling.proofs.ReadsBack.{read-back}
 use Rattle.spelling.proofs.TextBytes.{text-tabless}
 use Rattle.fields.specs.Fields.{tab, fields}
-use Rattle.stream.specs.Printed.{digits, places, refusedText}
-use Rattle.stream.proofs.Puts.{length-digits}
-use Rattle.stream.proofs.Answers.{refused-some}
+use Rattle.printing.specs.Decimal.{digits, places, refusedText}
+use Rattle.printing.proofs.Digits.{length-digits, refused-some}
 use Rattle.listings.specs.Answers.{faultless, decimalDigit, refusedLine, valuesLine, isNumber, isPair, saysRefused, ofFields, readAnswer}
 use Rattle.listings.proofs.Parted.{whole, cut-first}
 

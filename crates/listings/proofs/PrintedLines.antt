@@ -28,11 +28,13 @@ use Rattle.spelling.proofs.WrittenSo.{read-lanes}
 use Rattle.spelling.proofs.TextBytes.{text-without}
 use Rattle.fields.specs.Fields.{tab, fieldAt, argumentCount}
 use Rattle.names.specs.Names.{nameOf, builtinOf}
-use Rattle.lines.specs.Line.{plainCall, castCall, callOf, mostBytes, lineOf, refusalOf, answerOf}
+use Rattle.lines.specs.Line.{plainCall, castCall, callOf, lineOf, refusalOf, answerOf}
 use Rattle.answers.specs.Answers.{secondText, valuesText}
-use Rattle.stream.specs.Lines.{lines}
-use Rattle.stream.specs.Printed.{places, digits, refusedText, answerText, answerLine, answerLines, printed}
-use Rattle.stream.proofs.Cut.{lines-ended}
+use Rattle.cutting.specs.Cutting.{mostBytes}
+use Rattle.cutting.specs.Lines.{lines}
+use Rattle.printing.specs.Decimal.{places, digits, refusedText}
+use Rattle.stream.specs.Printed.{answerText, answerLine, answerLines, printed}
+use Rattle.cutting.proofs.Cut.{lines-ended}
 use Rattle.listings.specs.Answers.{refusedLine, valuesLine, isPair, readAnswer}
 use Rattle.listings.specs.Listing.{allAnswers}
 use Rattle.listings.proofs.AnswerTexts.{value-read, pair-read, refusal-read, decimal-without, digits-decimal}

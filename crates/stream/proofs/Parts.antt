@@ -10,24 +10,17 @@ use lib.Seq.{drop-drop}
 use lib.Dec.{ltb, eqb}
 use borrow.Author.Tests.{ltb-true, le-ltb, eqb-true}
 use Rattle.buffers.specs.Memory.{put}
-use Rattle.stream.specs.Stream.{lineRoom, ended, over, due, pieceText, pieceSize, pieceSkip, pieceOf, partText, partSize, partSkip}
+use Rattle.stream.specs.Stream.{lineRoom, pieceText, pieceOf, partText, partSize, partSkip}
 use Rattle.stream.specs.Printed.{answerLine}
-use Rattle.lines.specs.Line.{mostBytes}
-use Rattle.stream.specs.Lines.{newlineAt}
+use Rattle.cutting.specs.Cutting.{mostBytes, ended, over, due, pieceSize, pieceSkip, firstLine}
+use Rattle.cutting.specs.Lines.{newlineAt}
+use Rattle.cutting.specs.declared.FirstLine.{FirstLine}
 use Rattle.stream.specs.declared.Part.{Part}
 use Rattle.buffers.proofs.Puts.{put-put}
+use Rattle.cutting.proofs.Sizes.{size-le}
 use Rattle.stream.proofs.Answers.{line-le}
 
 module _ (skip last : Bool) (s : List ℕ) where
-  pub size-le : pieceSize skip last s ≤ length s
-  unfolding pieceSize
-  size-le = by (ended s) refl (skip || over s || last)
-    where
-      by : (b : Bool) → ended s ≡ b → (c : Bool) → cond b (suc (newlineAt s)) (cond c (length s) 0) ≤ length s
-      by true e c = omega (arith, ltb-true (newlineAt s) (length s) e)
-      by false e true = omega arith
-      by false e false = omega arith
-
   pub text-le : length (pieceText skip last s) ≤ lineRoom
   unfolding pieceText
   text-le = by (due skip last s)
@@ -35,13 +28,6 @@ module _ (skip last : Bool) (s : List ℕ) where
       by : (b : Bool) → length (cond b (answerLine (take (newlineAt s) s)) []) ≤ lineRoom
       by true = line-le (take (newlineAt s) s)
       by false = omega arith
-
-pub part-size-le : (n : ℕ) (skip last : Bool) (s : List ℕ) → partSize n skip last s ≤ length s
-unfolding partSize
-part-size-le zero skip last s = omega arith
-part-size-le (suc n) skip last s =
-    let k = pieceSize skip last s in
-    omega (arith, size-le skip last s, length-drop k s, part-size-le n (pieceSkip skip s) last (drop k s))
 
 -- where no byte is done with, nothing is written and nothing changes
 still : (skip last : Bool) (s : List ℕ) → pieceSize skip last s ≡ 0 → (pieceText skip last s ≡ []) × (pieceSkip skip s ≡ skip)
@@ -103,6 +89,19 @@ turn (suc n) skip last s h = by (eqb (pieceSize skip last s) 0) refl
 pub same-part : {a b c d : ℕ} {k l : Bool} → a ≡ b → c ≡ d → k ≡ l
     → _≡_ {A = Part} (record { size = a; used = c; skip = k }) (record { size = b; used = d; skip = l })
 same-part e f g = cc
+
+-- one piece, as the code has its first line
+module _ (skip last : Bool) (s : List ℕ) {p : FirstLine} (e : p ≡ firstLine skip last s) where
+  pub first-text : cond (p .due) (answerLine (take (p .end - 0) s)) [] ≡ pieceText skip last s
+  unfolding pieceText firstLine
+  first-text =
+      let z : newlineAt s - 0 ≡ newlineAt s = omega arith in
+      rw (e, z)
+
+  pub first-piece : (at : ℕ) {used : ℕ} → used ≡ at + length (pieceText skip last s)
+      → _≡_ {A = Part} (record { size = p .size; used = used; skip = p .skip }) (pieceOf at skip last s)
+  unfolding pieceOf firstLine
+  first-piece at f = rw (e, f)
 
 module _ (s : List ℕ) (at used left : ℕ) (skip last : Bool) (h : 0 < left) {p : Part} (e : p ≡ pieceOf used skip last (drop at s)) where
   pub from-turn : from at used left skip last (drop at s) ≡ from (at + p .size) (p .used) (next left (p .size)) (p .skip) last (drop (at + p .size) s)

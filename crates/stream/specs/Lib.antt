@@ -1,4 +1,2 @@
-pub mod Lines
 pub mod Printed
 pub mod Stream
-pub mod Turns

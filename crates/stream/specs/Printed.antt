@@ -1,28 +1,11 @@
 -- What is printed for a line, and for all of the input: 01, "Lines". Definitions only.
-use Prim.Native.Nat.{ℕ, zero, suc, _+_, _/_, _%_}
+use Prim.Native.Nat.{ℕ}
 use mathlib.Core.Bool.{Bool, cond}
 use mathlib.Core.List.{List, [], _∷_, _++_}
-use lib.Dec.{ltb, eqb}
-use Rattle.buffers.specs.Text.{bytes}
-use Rattle.fields.specs.Fields.{tab}
+use lib.Dec.{eqb}
+use Rattle.printing.specs.Decimal.{refusedText}
 use Rattle.lines.specs.Line.{refusalOf, answerOf}
-use Rattle.stream.specs.Lines.{lines, afterNewline}
-
--- the low n decimal digits of v, the highest first
-unfoldable pub digits : ℕ → ℕ → List ℕ
-digits zero v = []
-digits (suc n) v = digits n (v / 10) ++ ((48 + v % 10) ∷ [])
-
--- how many digits a number below 1,000 has
-unfoldable pub places : ℕ → ℕ
-places v = cond (ltb v 10) 1 (cond (ltb v 100) 2 3)
-
-abbrev pub decimal : ℕ → List ℕ
-decimal v = digits (places v) v
-
--- "A refusal prints `refused`, tab, number." Nothing where there is none.
-unfoldable pub refusedText : ℕ → List ℕ
-refusedText n = cond (eqb n 0) [] (bytes "refused" ++ tab ∷ decimal n)
+use Rattle.cutting.specs.Lines.{lines, afterNewline}
 
 unfoldable pub answerText : List ℕ → List ℕ
 answerText l = cond (eqb (refusalOf l) 0) (answerOf l) (refusedText (refusalOf l))

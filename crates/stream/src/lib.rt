@@ -1,14 +1,14 @@
 // Lines of a buffer, answered one after another, and what of the buffer is kept for later.
 use answers::LineAnswer;
 ghost use mathlib.Core.Path.{_≡_};
-ghost use mathlib.Core.List.{[], _∷_};
+ghost use mathlib.Core.List.{[]};
 ghost use mathlib.Core.Bool.{cond};
-ghost use Prim.Native.Nat.{_+_, _-_, _/_, _<_, _≤_, min};
-ghost use lib.Dec.{eqb};
+ghost use Prim.Native.Nat.{_+_, _-_, _/_, _≤_};
 ghost use lib.ListN.{length};
 ghost use Rattle.buffers.specs.Memory.{put};
-ghost use Rattle.stream.specs.Stream.{lineRoom, linesIn, pieceText, pieceOf, partText, partOf, heldOf, startOf, stepOf, bufferOf, textOf, space, stepLines};
-ghost use Rattle.stream.specs.Printed.{digits, places, refusedText, answerLine};
+ghost use Rattle.cutting.specs.Cutting.{heldOf};
+ghost use Rattle.stream.specs.Stream.{lineRoom, linesIn, pieceText, pieceOf, partText, partOf, startOf, stepOf, bufferOf, textOf, space, stepLines};
+ghost use Rattle.stream.specs.Printed.{answerLine};
 ghost use Rattle.lines.specs.Line.{writtenIn, lineAnswer};
 
 // No answer has more than 311 bytes; its newline follows.
@@ -40,69 +40,6 @@ pub struct Held {
     pub done: bool,
 }
 
-fn wide(x: u8) -> usize
-    ensures { λ r. ⌜ r ≡ x ⌝ }
-{
-    x as usize
-}
-
-// A byte at a place; answers the next place.
-pub fn put_byte(out: &mut [u8], at: usize, b: u8) -> usize
-    requires { ⌜ at < length (now out) ⌝ }
-    ensures { λ r. ⌜ (r ≡ at + 1) × (now (out .exit) ≡ put (now (out .entry)) at (b ∷ [])) ⌝ }
-{
-    out[at] = b;
-    at + 1
-}
-
-fn digit_byte(d: usize) -> u8
-    requires { ⌜ d < 10 ⌝ }
-    ensures { λ r. ⌜ r ≡ 48 + d ⌝ }
-{
-    (48 + d) as u8
-}
-
-// The low n digits of v from `at` on; answers the next place.
-pub fn put_digits(out: &mut [u8], at: usize, n: usize, v: usize) -> usize
-    requires { ⌜ at + n ≤ length (now out) ⌝ }
-    ensures { λ r. ⌜ (r ≡ at + n) × (now (out .exit) ≡ put (now (out .entry)) at (digits n v)) ⌝ }
-{
-    let mut rest = v;
-    let mut i = n;
-    while i > 0 {
-        i -= 1;
-        out[at + i] = digit_byte(rest % 10);
-        rest = rest / 10;
-    }
-    at + n
-}
-
-fn places_of(v: usize) -> usize
-    ensures { λ r. ⌜ r ≡ places v ⌝ }
-{
-    if v < 10 {
-        1
-    } else if v < 100 {
-        2
-    } else {
-        3
-    }
-}
-
-// `refused`, tab, number at a place, nothing for 0; answers the next place.
-pub fn put_refusal(out: &mut [u8], at: usize, refusal: u8) -> usize
-    requires { ⌜ at + length (refusedText refusal) ≤ length (now out) ⌝ }
-    ensures { λ r. ⌜ (r ≡ at + length (refusedText refusal)) × (now (out .exit) ≡ put (now (out .entry)) at (refusedText refusal)) ⌝ }
-{
-    if refusal == 0 {
-        return at;
-    }
-    let v = wide(refusal);
-    let n = places_of(v);
-    let e = buffers::put_bytes(out, at, b"refused\t");
-    put_digits(out, e, n, v)
-}
-
 // A line's answer at a place, where there is room for any.
 fn line_at(line: &[u8], out: &mut [u8], at: usize) -> LineAnswer
     requires { ⌜ at ≤ length (now out) ⌝ }
@@ -118,8 +55,8 @@ fn put_line(line: &[u8], out: &mut [u8], at: usize) -> usize
     ensures { λ r. ⌜ (r ≡ at + length (answerLine (now (line .entry)))) × (now (out .exit) ≡ put (now (out .entry)) at (answerLine (now (line .entry)))) ⌝ }
 {
     let a = line_at(line, out, at);
-    let e = put_refusal(out, at + a.len, a.refusal);
-    put_byte(out, e, 10)
+    let e = printing::put_refusal(out, at + a.len, a.refusal);
+    printing::put_byte(out, e, 10)
 }
 
 // A line's answer and its newline at a place where they are `due`, and nothing where not; answers the next place.
@@ -131,46 +68,20 @@ fn put_due(due: bool, line: &[u8], out: &mut [u8], at: usize) -> usize
     if due { put_line(line, out, at) } else { at }
 }
 
-fn choose(on: bool, a: usize, b: usize) -> usize
-    ensures { λ r. ⌜ r ≡ cond on a b ⌝ }
-{
-    if on { a } else { b }
-}
-
 // The first line of s, where it is to be answered now.
 fn fold_piece(s: &[u8], skip: bool, last: bool, out: &mut [u8], at: usize) -> Part
     requires { ⌜ at + lineRoom ≤ length (now out) ⌝ }
     ensures { λ r. ⌜ (r ≡ pieceOf at skip last (now (s .entry)))
         × (now (out .exit) ≡ put (now (out .entry)) at (pieceText skip last (now (s .entry)))) ⌝ }
 {
-    let n = s.len();
-    let e = buffers::find(s, b'\n');
-    let ended = e < n;
-    let over = n > lines::MOST_BYTES;
-    let due = !skip & (ended | over | (last & (n > 0)));
-    let used = put_due(due, &s[0..e], out, at);
-    let size = choose(skip | over | last, n, 0);
+    let p = cutting::first_line(s, skip, last);
+    let end = p.end;
+    let used = put_due(p.due, &s[0..end], out, at);
     Part {
-        size: after(ended, e, size),
+        size: p.size,
         used: used,
-        skip: !ended & (skip | over),
+        skip: p.skip,
     }
-}
-
-// Past the newline, where there is one.
-fn after(ended: bool, e: usize, size: usize) -> usize
-    requires { ⌜ e < 18446744073709551615 ⌝ }
-    ensures { λ r. ⌜ r ≡ cond ended (e + 1) size ⌝ }
-{
-    if ended { e + 1 } else { size }
-}
-
-// How many lines are left to answer: none where nothing was done.
-fn lines_left(left: usize, size: usize) -> usize
-    requires { ⌜ 0 < left ⌝ }
-    ensures { λ r. ⌜ (r < left) × (r ≡ cond (eqb size 0) 0 (left - 1)) ⌝ }
-{
-    if size == 0 { 0 } else { left - 1 }
 }
 
 // The lines of s, as many as have room for the longest answer each. `skip`: s starts amid a line that is answered already.
@@ -189,7 +100,7 @@ fn fold_part(s: &[u8], skip: bool, last: bool, out: &mut [u8]) -> Part
         at += p.size;
         used = p.used;
         amid = p.skip;
-        left = lines_left(left, p.size);
+        left = cutting::lines_left(left, p.size);
     }
     Part {
         size: at,
@@ -198,38 +109,14 @@ fn fold_part(s: &[u8], skip: bool, last: bool, out: &mut [u8]) -> Part
     }
 }
 
-// What stands from `at` up to `have` goes to the start; answers how much that is.
-fn carry(buf: &mut [u8], at: usize, have: usize) -> usize
-    ensures { λ r. ⌜ (r ≡ length (heldOf (now (buf .entry)) at have)) × (now (buf .exit) ≡ put (now (buf .entry)) 0 (heldOf (now (buf .entry)) at have))
-        × (r ≤ length (now (buf .entry))) ⌝ }
-{
-    let end = least(have, buf.len());
-    if at > end {
-        return 0;
-    }
-    let n = end - at;
-    let mut i = 0;
-    while i < n {
-        buf[i] = buf[at + i];
-        i += 1;
-    }
-    n
-}
-
-fn least(a: usize, b: usize) -> usize
-    ensures { λ r. ⌜ r ≡ min a b ⌝ }
-{
-    if a < b { a } else { b }
-}
-
 // The lines of what the buffer holds.
 fn fold_held(buf: &[u8], at: usize, have: usize, skip: bool, last: bool, out: &mut [u8]) -> Part
     ensures { λ r. ⌜ (r ≡ partOf (linesIn (now (out .entry))) skip last (heldOf (now (buf .entry)) at have))
         × (now (out .exit) ≡ put (now (out .entry)) 0 (partText (linesIn (now (out .entry))) skip last (heldOf (now (buf .entry)) at have)))
         × (r .size ≤ length (heldOf (now (buf .entry)) at have)) × (r .used ≤ length (now (out .entry))) ⌝ }
 {
-    let end = least(have, buf.len());
-    let start = least(at, end);
+    let end = cutting::least(have, buf.len());
+    let start = cutting::least(at, end);
     fold_part(&buf[start..end], skip, last, out)
 }
 
@@ -259,7 +146,7 @@ pub fn step(buf: &mut Space, out: &mut Space, h: Held) -> Held
     let have = h.have;
     let p = fold_held(buf, at, have, h.skip, h.last, out);
     if p.size == 0 {
-        let n = carry(buf, at, have);
+        let n = cutting::carry(buf, at, have);
         return Held {
             at: 0,
             have: n,
@@ -270,7 +157,7 @@ pub fn step(buf: &mut Space, out: &mut Space, h: Held) -> Held
             done: h.last,
         };
     }
-    let end = least(have, SPACE);
+    let end = cutting::least(have, SPACE);
     Held {
         at: at + p.size,
         have: end,

@@ -1,8 +1,8 @@
 -- A turn is a step, and a read where the step asks for one: it holds little then, so that there is room. Assumes nothing.
 use native.Mathlib.Omega.{arith}
 use Rattle.stream.specs.Stream.{stepLines}
-use Rattle.stream.proofs.Steps.{room-to-read}
-use Rattle.stream.proofs.Turned.{gone, got-more}
+use Rattle.inputs.proofs.Steps.{room-to-read}
+use Rattle.inputs.proofs.Turned.{gone, got-more}
 use borrow.Author.Needs.{needs}
 use Rattle.foldlines.proofs.turn.Statement.{statement}
 use Rattle.foldlines.proofs.turn.Tie as tie

@@ -6,7 +6,7 @@ use lib.ListN.{length}
 use borrow.Author.Needs.{needs}
 use Rattle.buffers.specs.Memory.{put}
 use Rattle.stream.specs.Stream.{partOf, partText, linesIn}
-use Rattle.stream.proofs.Buffer.{held-part}
+use Rattle.cutting.proofs.Buffer.{held-part}
 use Rattle.stream.proofs.fold_held.Statement.{statement}
 use Rattle.stream.proofs.fold_held.Tie as tie
 

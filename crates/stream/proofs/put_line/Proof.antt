@@ -6,7 +6,8 @@ use lib.ListN.{length}
 use borrow.Author.Needs.{needs}
 use Rattle.buffers.specs.Memory.{put}
 use Rattle.lines.specs.Line.{writtenIn}
-use Rattle.stream.specs.Printed.{refusedText, answerText, answerLine}
+use Rattle.printing.specs.Decimal.{refusedText}
+use Rattle.stream.specs.Printed.{answerText, answerLine}
 use Rattle.buffers.proofs.Puts.{then}
 use Rattle.stream.proofs.Answers.{text-of, written-of, fit-of, text-le, length-line}
 use Rattle.stream.proofs.put_line.Statement.{statement}

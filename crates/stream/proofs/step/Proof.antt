@@ -7,7 +7,7 @@ use native.Mathlib.Omega.{arith}
 use lib.ListN.{length}
 use borrow.Author.Needs.{needs}
 use Rattle.stream.specs.Stream.{textOf, lineRoom, linesIn, space, stepLines}
-use Rattle.stream.proofs.Buffer.{length-held}
+use Rattle.cutting.proofs.Buffer.{length-held}
 use Rattle.stream.proofs.Steps.{step-idle, step-busy, buffer-idle, buffer-busy}
 use Rattle.stream.proofs.step.Statement.{statement}
 use Rattle.stream.proofs.step.Tie as tie
