@@ -14,7 +14,7 @@ use Rattle.values.proofs.Places.{placed}
 use Rattle.buffers.specs.Memory.{put}
 use Rattle.buffers.proofs.Puts.{Made, both-made, put-nil, given-refused, given-short, given-room}
 use Rattle.words.specs.Words.{valueAt}
-use Rattle.words.proofs.Tables.{typed}
+use Rattle.places.proofs.Tables.{typed}
 use Rattle.builtins.specs.declared.Answer.{Answer}
 use Rattle.spelling.specs.Write.{textOf, textLength}
 use Rattle.spelling.proofs.Texts.{at-most-155}

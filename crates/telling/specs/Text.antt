@@ -4,7 +4,7 @@ use mathlib.Core.Bool.{cond}
 use mathlib.Core.List.{List, [], _∷_, _++_, map}
 use lib.Dec.{ltb, eqb}
 use lib.ListN.{length, take, drop, getD}
-use Rattle.lines.specs.Fields.{tab}
+use Rattle.fields.specs.Fields.{tab}
 use Rattle.printing.specs.Decimal.{digits, refusedText}
 use Rattle.kinds.specs.declared.Difference.the-variants.{Alike, Missing, Refusal, OtherType, OtherValue, NanBits, ZeroSign}
 use Rattle.kinds.specs.Kinds.{kindWord}
