@@ -98,6 +98,5 @@ pub fn well_formed(v: Value) -> bool
 {
     let k = v.kind;
     let l = v.lanes;
-    values::is_type(k)
-        & lanes_formed(&l, values::lane_count(k), lane_bound(values::scalar_of(k)))
+    values::is_type(k) & lanes_formed(&l, values::lane_count(k), lane_bound(values::scalar_of(k)))
 }

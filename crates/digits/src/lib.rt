@@ -1,6 +1,6 @@
 // Lanes, each read as one test and put where it belongs.
-use values::Scalar;
 use places::choose;
+use values::Scalar;
 ghost use mathlib.Core.Path.{_≡_};
 ghost use Prim.Native.Nat.{_+_, _*_, _^_, _≤_, _<_};
 ghost use lib.ListN.{length, take, drop, getD};

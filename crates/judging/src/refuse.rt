@@ -55,9 +55,7 @@ fn three_alike(w: &[u64], n: u64, set: u64) -> u8
     let q = words::place_at(w, 20);
     let r = words::place_at(w, 37);
     let formed = words::formed_at(w, 3) & words::formed_at(w, 20) & words::formed_at(w, 37);
-    let alone = places::among(set, p)
-        & places::among(set, q)
-        & places::among(set, r);
+    let alone = places::among(set, p) & places::among(set, q) & places::among(set, r);
     first_of(n == 3, formed, alone, (p == q) & (p == r), true)
 }
 
@@ -79,13 +77,7 @@ fn scaling(w: &[u64], n: u64, set: u64) -> u8
     let q = words::place_at(w, 20);
     let formed = words::formed_at(w, 3) & words::formed_at(w, 20);
     let alone = places::among(set, p) & places::among(calls::table::I32S, q);
-    first_of(
-        n == 2,
-        formed,
-        alone,
-        q == places::integers_at(p),
-        true,
-    )
+    first_of(n == 2, formed, alone, q == places::integers_at(p), true)
 }
 
 fn casting(w: &[u64], n: u64, set: u64) -> u8

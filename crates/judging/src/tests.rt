@@ -24,8 +24,7 @@ fn is_condition(w: &[u64], p: u64, set: u64) -> bool
     ensures { λ r. ⌜ r ≡ chooses set (valueAt (now (w .entry)) 37) (kindAt p) ⌝ }
 {
     let q = words::place_at(w, 37);
-    words::formed_at(w, 37)
-        & (places::among(set, q) & ((q == 1) | (q == places::booleans_at(p))))
+    words::formed_at(w, 37) & (places::among(set, q) & ((q == 1) | (q == places::booleans_at(p))))
 }
 
 pub fn one_value(w: &[u64], n: u64, p: u64, set: u64) -> bool
@@ -72,6 +71,5 @@ pub fn casting(w: &[u64], n: u64, p: u64, set: u64) -> bool
     let t = places::known(words::word(w, 2));
     (n == 2)
         & (places::among(set, p)
-            & (places::among(set, t)
-                & (calls::table::bytes_at(t) == calls::table::bytes_at(p))))
+            & (places::among(set, t) & (calls::table::bytes_at(t) == calls::table::bytes_at(p))))
 }

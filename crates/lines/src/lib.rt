@@ -10,7 +10,6 @@ ghost use Rattle.spelling.specs.Hex.{DigitTable};
 ghost use Rattle.fields.specs.Fields.{fieldAt, argumentCount};
 ghost use Rattle.lines.specs.Line.{castCall, plainCall, callOf, lineAnswer, writtenIn};
 
-
 // ---- the call that a line spells, as words
 
 // The words of bitcast's call on a line of that name, whose first argument is a type.

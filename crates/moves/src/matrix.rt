@@ -103,4 +103,3 @@ pub fn put_copy(s: &[u64], out: &mut [u64])
         i += 1;
     }
 }
-

@@ -90,8 +90,8 @@ module _ (w : List ℕ) (at : ℕ) where
     all-there =
         elim (either (ltb (length w) (at + 17))) [
           | inl l ↦
-            let e : wellFormed (valueAt w at) ≡ false = rw (not-there (ltb-true (length w) (at + 17) l), empty-not-formed) in
-            absurd (false≢true (sym e ∙ f))
+              let e : wellFormed (valueAt w at) ≡ false = rw (not-there (ltb-true (length w) (at + 17) l), empty-not-formed) in
+              absurd (false≢true (sym e ∙ f))
           | inr g ↦ ltb-false (length w) (at + 17) g
         ]
 

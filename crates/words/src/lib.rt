@@ -36,7 +36,12 @@ pub fn formed_at(w: &[u64], at: usize) -> bool
         return false;
     }
     let p = places::known(w[at]);
-    (p != 0) & checks::lanes_formed(&w[at + 1..at + 17], places::count_at(p), places::bound_at(p))
+    (p != 0)
+        & checks::lanes_formed(
+            &w[at + 1..at + 17],
+            places::count_at(p),
+            places::bound_at(p),
+        )
 }
 
 // Whether a scalar or a vector of the type at p stands there, well formed: without a branch, once all words are there.
