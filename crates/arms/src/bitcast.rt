@@ -1,7 +1,11 @@
 // bitcast: of four lanes, by the widths of both types' lanes.
 use crate::Outcome;
+use crate::given;
 use calls::Builtin;
 use calls::table::Shape;
+use judging::tests::casting;
+use places::known;
+use places::scalar_at;
 use values::Scalar;
 ghost use mathlib.Core.Path.{_≡_};
 ghost use Prim.Native.Nat.{_≤_};
@@ -28,12 +32,8 @@ pub fn bitcast(w: &[u64], n: u64, p: u64, set: u64, x: [u32; 4]) -> Outcome
     requires { ⌜ First (now w) p × (set ≡ typesOf (takes Builtin.Bitcast)) × (3 ≤ length (now w)) ⌝ }
     ensures { λ r. ⌜ r ≡ outcome Builtin.Bitcast (eqb (judgedIn Shape.Casting set n (now (w .entry))) 0) (getD (now (w .entry)) 2 0) p x emptyValue emptyValue ⌝ }
 {
-    let t = places::known(w[2]);
-    let from = is_half(places::scalar_at(p));
-    let to = is_half(places::scalar_at(t));
-    crate::given(
-        judging::tests::casting(w, n, p, set),
-        t,
-        moves::recast(from, to, x),
-    )
+    let t = known(w[2]);
+    let from = is_half(scalar_at(p));
+    let to = is_half(scalar_at(t));
+    given(casting(w, n, p, set), t, moves::recast(from, to, x))
 }

@@ -1,7 +1,13 @@
 // all, any and select.
+use crate::BOOL;
 use crate::Outcome;
+use crate::given;
+use crate::given_one;
 use calls::Builtin;
 use calls::table::Shape;
+use judging::tests;
+use places::count_at;
+use words::cut_at;
 ghost use mathlib.Core.Path.{_≡_};
 ghost use lib.Dec.{eqb};
 ghost use lib.ListN.{take};
@@ -30,8 +36,8 @@ fn flag_of(b: bool) -> u32
 fn condition(w: &[u64]) -> [u32; 4]
     ensures { λ r. ⌜ r ≡ conditionOf (valueAt (now (w .entry)) 37) ⌝ }
 {
-    let x = words::cut_at(w, 37);
-    if words::place_at(w, 37) == crate::BOOL {
+    let x = cut_at(w, 37);
+    if words::place_at(w, 37) == BOOL {
         [x[0], x[0], x[0], x[0]]
     } else {
         x
@@ -42,31 +48,22 @@ pub fn all(w: &[u64], n: u64, p: u64, set: u64, x: [u32; 4]) -> Outcome
     requires { ⌜ First (now w) p ⌝ }
     ensures { λ r. ⌜ r ≡ outcome Builtin.All (eqb (judgedIn Shape.OneValue set n (now (w .entry))) 0) 0 p x emptyValue emptyValue ⌝ }
 {
-    crate::given_one(
-        judging::tests::one_value(w, n, p, set),
-        crate::BOOL,
-        flag_of(each_is(places::count_at(p), x, 1)),
-    )
+    let ok = tests::one_value(w, n, p, set);
+    given_one(ok, BOOL, flag_of(each_is(count_at(p), x, 1)))
 }
 
 pub fn any(w: &[u64], n: u64, p: u64, set: u64, x: [u32; 4]) -> Outcome
     requires { ⌜ First (now w) p ⌝ }
     ensures { λ r. ⌜ r ≡ outcome Builtin.Any (eqb (judgedIn Shape.OneValue set n (now (w .entry))) 0) 0 p x emptyValue emptyValue ⌝ }
 {
-    crate::given_one(
-        judging::tests::one_value(w, n, p, set),
-        crate::BOOL,
-        flag_of(!each_is(places::count_at(p), x, 0)),
-    )
+    let ok = tests::one_value(w, n, p, set);
+    given_one(ok, BOOL, flag_of(!each_is(count_at(p), x, 0)))
 }
 
 pub fn select(w: &[u64], n: u64, p: u64, set: u64, x: [u32; 4]) -> Outcome
     requires { ⌜ First (now w) p ⌝ }
     ensures { λ r. ⌜ r ≡ outcome Builtin.Select (eqb (judgedIn Shape.Selecting set n (now (w .entry))) 0) 0 p x (valueAt (now (w .entry)) 20) (valueAt (now (w .entry)) 37) ⌝ }
 {
-    crate::given(
-        judging::tests::selecting(w, n, p, set),
-        p,
-        moves::select_four(x, words::cut_at(w, 20), condition(w)),
-    )
+    let ok = tests::selecting(w, n, p, set);
+    given(ok, p, moves::select_four(x, cut_at(w, 20), condition(w)))
 }

@@ -1,6 +1,11 @@
 // Packing and unpacking words: the words and the lanes are packing's, by the codings of their formats.
 use crate::Outcome;
+use crate::U32;
+use crate::VEC2_F32;
+use crate::given;
+use crate::given_one;
 use calls::table::Shape;
+use judging::tests::one_value;
 use packing::Coding8;
 use packing::Coding16;
 ghost use mathlib.Core.Path.{_≡_};
@@ -17,22 +22,14 @@ pub fn pack8(w: &[u64], n: u64, p: u64, set: u64, t: Coding8, x: [u32; 4]) -> Ou
     requires { ⌜ First (now w) p ⌝ }
     ensures { λ r. ⌜ r ≡ givenOne (eqb (judgedIn Shape.OneValue set n (now (w .entry))) 0) 3 (joined 8 (four (code8Of t) x)) ⌝ }
 {
-    crate::given_one(
-        judging::tests::one_value(w, n, p, set),
-        crate::U32,
-        packing::word8(t, x),
-    )
+    given_one(one_value(w, n, p, set), U32, packing::word8(t, x))
 }
 
 pub fn pack16(w: &[u64], n: u64, p: u64, set: u64, t: Coding16, x: [u32; 4]) -> Outcome
     requires { ⌜ First (now w) p ⌝ }
     ensures { λ r. ⌜ r ≡ givenOne (eqb (judgedIn Shape.OneValue set n (now (w .entry))) 0) 3 (joined 16 (take 2 (four (code16Of t) x))) ⌝ }
 {
-    crate::given_one(
-        judging::tests::one_value(w, n, p, set),
-        crate::U32,
-        packing::word16(t, x),
-    )
+    given_one(one_value(w, n, p, set), U32, packing::word16(t, x))
 }
 
 // pack4xI8Clamp: a negative lane fills every lane above it.
@@ -40,11 +37,7 @@ pub fn pack_filling(w: &[u64], n: u64, p: u64, set: u64, x: [u32; 4]) -> Outcome
     requires { ⌜ First (now w) p ⌝ }
     ensures { λ r. ⌜ r ≡ givenOne (eqb (judgedIn Shape.OneValue set n (now (w .entry))) 0) 3 (fillFour x) ⌝ }
 {
-    crate::given_one(
-        judging::tests::one_value(w, n, p, set),
-        crate::U32,
-        packing::fill_word(x),
-    )
+    given_one(one_value(w, n, p, set), U32, packing::fill_word(x))
 }
 
 // To the vector type at k.
@@ -52,20 +45,12 @@ pub fn unpack8(w: &[u64], n: u64, p: u64, set: u64, t: Coding8, k: u64, x: [u32;
     requires { ⌜ First (now w) p ⌝ }
     ensures { λ r. ⌜ r ≡ given (eqb (judgedIn Shape.OneValue set n (now (w .entry))) 0) k (map (lane8Of t) (parts 8 4 (getD x 0 0))) ⌝ }
 {
-    crate::given(
-        judging::tests::one_value(w, n, p, set),
-        k,
-        packing::lanes8(t, x[0]),
-    )
+    given(one_value(w, n, p, set), k, packing::lanes8(t, x[0]))
 }
 
 pub fn unpack16(w: &[u64], n: u64, p: u64, set: u64, t: Coding16, x: [u32; 4]) -> Outcome
     requires { ⌜ First (now w) p ⌝ }
     ensures { λ r. ⌜ r ≡ given (eqb (judgedIn Shape.OneValue set n (now (w .entry))) 0) 9 (map (lane16Of t) (parts 16 2 (getD x 0 0)) ++ 0 ∷ 0 ∷ []) ⌝ }
 {
-    crate::given(
-        judging::tests::one_value(w, n, p, set),
-        crate::VEC2_F32,
-        packing::lanes16(t, x[0]),
-    )
+    given(one_value(w, n, p, set), VEC2_F32, packing::lanes16(t, x[0]))
 }

@@ -1,7 +1,12 @@
 // frexp and ldexp: the lanes are the crate exponent's.
 use crate::Outcome;
+use crate::given;
+use crate::given_two;
 use calls::Builtin;
 use calls::table::Shape;
+use judging::tests;
+use places::scalar_at;
+use words::cut_at;
 ghost use mathlib.Core.Path.{_≡_};
 ghost use lib.Dec.{eqb};
 ghost use Rattle.values.specs.Value.{emptyValue};
@@ -14,23 +19,17 @@ pub fn frexp(w: &[u64], n: u64, p: u64, set: u64, x: [u32; 4]) -> Outcome
     requires { ⌜ First (now w) p ⌝ }
     ensures { λ r. ⌜ r ≡ outcome Builtin.Frexp (eqb (judgedIn Shape.OneValue set n (now (w .entry))) 0) 0 p x emptyValue emptyValue ⌝ }
 {
-    let s = places::scalar_at(p);
-    crate::given_two(
-        judging::tests::one_value(w, n, p, set),
-        p,
-        exponent::fraction(s, x),
-        places::integers_at(p),
-        exponent::exponent(s, x),
-    )
+    let s = scalar_at(p);
+    let ok = tests::one_value(w, n, p, set);
+    let fractions = exponent::fraction(s, x);
+    let q = places::integers_at(p);
+    given_two(ok, p, fractions, q, exponent::exponent(s, x))
 }
 
 pub fn ldexp(w: &[u64], n: u64, p: u64, set: u64, x: [u32; 4]) -> Outcome
     requires { ⌜ First (now w) p × (set ≡ typesOf (takes Builtin.Ldexp)) ⌝ }
     ensures { λ r. ⌜ r ≡ outcome Builtin.Ldexp (eqb (judgedIn Shape.Scaling set n (now (w .entry))) 0) 0 p x (valueAt (now (w .entry)) 20) (valueAt (now (w .entry)) 37) ⌝ }
 {
-    crate::given(
-        judging::tests::scaling(w, n, p, set),
-        p,
-        exponent::ldexp(x, words::cut_at(w, 20)),
-    )
+    let ok = tests::scaling(w, n, p, set);
+    given(ok, p, exponent::ldexp(x, cut_at(w, 20)))
 }

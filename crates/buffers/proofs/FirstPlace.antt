@@ -1,17 +1,18 @@
--- Where a byte stands first, by induction on the bytes. To pass one place more is one test more, so eight places are passed by eight tests. Assumes nothing.
+-- Where a byte stands first, by induction on the bytes. To pass one place more is one test more, so four places are passed by four tests, and eight by twice that. Assumes nothing.
 use Prim.Native.Nat.{ℕ, zero, suc, _+_, _<_, _≤_}
 use mathlib.Core.List.{List, [], _∷_, _++_}
 use mathlib.Core.Bool.{Bool, true, false, not, cond, _&&_, and-false}
-use mathlib.Core.Path.{_≡_, refl, ap, _∙_}
+use mathlib.Core.Logic.{inl, inr}
+use mathlib.Core.Path.{_≡_, refl, ap, sym, _∙_}
 use native.Mathlib.Numerals.{add-one}
 use native.Mathlib.Nat.{zero-add}
 use native.Mathlib.Omega.{arith}
 use lib.ListN.{length, take, drop, getD, length-drop}
-use lib.Seq.{getD-drop}
+use lib.Seq.{getD-drop, drop-drop}
 use lib.Dec.{leb, eqb, leb·zero, leb·suc-zero, leb·suc-suc}
-use borrow.Author.Tests.{eqb-true, eq-eqb, ne-eqb, le-leb, leb-true, leb-false, not-true}
+use borrow.Author.Tests.{eqb-true, eq-eqb, ne-eqb, le-leb, lt-leb, leb-true, leb-false, not-true}
 use Rattle.values.specs.Value.{every}
-use Rattle.values.proofs.Bools.{both}
+use Rattle.values.proofs.Bools.{both, either}
 use Rattle.buffers.specs.Text.{placeOf}
 
 module _ (b : ℕ) where
@@ -64,19 +65,53 @@ module _ (b : ℕ) where
   pub place-miss : (s : List ℕ) (i : ℕ) → i < length s → i ≤ placeOf b s → (getD s i 0 ≡ b → ⊥) → i < placeOf b s
   place-miss s i h k e = leb-true (suc i) (placeOf b s) (place-more s i h ∙ rw (le-leb i (placeOf b s) k, ne-eqb _ _ e))
 
-  -- the first of the places from i + k on, up to n further, that holds b, or the last; each is looked at once
-  abbrev pub firstOf : List ℕ → ℕ → ℕ → ℕ → ℕ
-  firstOf s i k zero = i + k
-  firstOf s i k (suc n) = cond (eqb (getD s (i + k) 0) b) (i + k) (firstOf s i (suc k) n)
+  -- the first of the n places from i + k on that holds b, or `rest`; each is looked at once
+  abbrev pub firstOf : List ℕ → ℕ → ℕ → ℕ → ℕ → ℕ
+  firstOf s i k zero rest = rest
+  firstOf s i k (suc n) rest = cond (eqb (getD s (i + k) 0) b) (i + k) (firstOf s i (suc k) n rest)
 
-  pub place-of : (s : List ℕ) (i k n : ℕ) → i + k + n < length s → k ≤ placeOf b (drop i s) → placeOf b (drop i s) ≤ k + n → firstOf s i k n ≡ i + placeOf b (drop i s)
-  place-of s i k zero h low high = omega arith
-  place-of s i k (suc n) h low high = by (eqb (getD s (i + k) 0) b) (place-from s i k (omega arith)) (λ more. place-of s i (suc k) n (omega arith) more (omega arith))
+  pub place-of : (s : List ℕ) (i k n rest : ℕ) → i + k + n ≤ length s → k ≤ placeOf b (drop i s)
+      → firstOf s i k n rest ≡ cond (leb (k + n) (placeOf b (drop i s))) rest (i + placeOf b (drop i s))
+  place-of s i k zero rest h low = rw (le-leb (k + 0) (placeOf b (drop i s)) (omega arith))
+  place-of s i k (suc n) rest h low =
+      let e : k + suc n ≡ suc k + n = omega arith in
+      rw e (by (eqb (getD s (i + k) 0) b) (place-from s i k (omega arith)) (λ more. place-of s i (suc k) n rest (omega arith) more))
     where
       by : (t : Bool) → leb (suc k) (placeOf b (drop i s)) ≡ leb k (placeOf b (drop i s)) && not t
-          → (suc k ≤ placeOf b (drop i s) → firstOf s i (suc k) n ≡ i + placeOf b (drop i s)) → cond t (i + k) (firstOf s i (suc k) n) ≡ i + placeOf b (drop i s)
-      by true e ih = omega (arith, leb-false (suc k) _ (e ∙ and-false (leb k (placeOf b (drop i s)))))
+          → (suc k ≤ placeOf b (drop i s) → firstOf s i (suc k) n rest ≡ cond (leb (suc k + n) (placeOf b (drop i s))) rest (i + placeOf b (drop i s)))
+          → cond t (i + k) (firstOf s i (suc k) n rest) ≡ cond (leb (suc k + n) (placeOf b (drop i s))) rest (i + placeOf b (drop i s))
+      by true e ih =
+          let p = placeOf b (drop i s) in
+          let l : p < suc k = leb-false (suc k) p (e ∙ and-false (leb k p)) in
+          rw (lt-leb (suc k + n) p (omega arith)) (omega arith)
       by false e ih = ih (leb-true (suc k) _ (e ∙ rw (le-leb k _ low)))
+
+  four-more : (n : ℕ) → leb 4 n ≡ leb 8 (4 + n)
+  four-more n =
+      elim (either (leb 4 n)) [
+        | inl t ↦ rw (t, le-leb 8 (4 + n) (omega (arith, leb-true 4 n t)))
+        | inr t ↦ rw (t, lt-leb 8 (4 + n) (omega (arith, leb-false 4 n t)))
+      ]
+
+  -- b is not among eight places where it is among neither four of them
+  pub none-eight : (s : List ℕ) (i : ℕ) → leb 4 (placeOf b (drop i s)) && leb 4 (placeOf b (drop (i + 4) s)) ≡ leb 8 (placeOf b (drop i s))
+  none-eight s i = rw (← (drop-drop 4 i s)) (by (leb 4 (placeOf b (drop i s))) refl)
+    where
+      by : (t : Bool) → leb 4 (placeOf b (drop i s)) ≡ t → t && leb 4 (placeOf b (drop 4 (drop i s))) ≡ leb 8 (placeOf b (drop i s))
+      by true e = rw (place-drop (drop i s) 4 (leb-true 4 (placeOf b (drop i s)) e)) (four-more (placeOf b (drop 4 (drop i s))))
+      by false e = sym (lt-leb 8 (placeOf b (drop i s)) (omega (arith, leb-false 4 (placeOf b (drop i s)) e)))
+
+  -- the first of four places, or else of the four behind them, where b is among the eight
+  pub first-eight : (s : List ℕ) (i : ℕ) → placeOf b (drop i s) < 8
+      → cond (leb 4 (placeOf b (drop i s))) (cond (leb 4 (placeOf b (drop (i + 4) s))) (i + 7) (i + 4 + placeOf b (drop (i + 4) s))) (i + placeOf b (drop i s)) ≡ i + placeOf b (drop i s)
+  first-eight s i h = rw (← (drop-drop 4 i s)) (by (leb 4 (placeOf b (drop i s))) refl)
+    where
+      by : (t : Bool) → leb 4 (placeOf b (drop i s)) ≡ t
+          → cond t (cond (leb 4 (placeOf b (drop 4 (drop i s)))) (i + 7) (i + 4 + placeOf b (drop 4 (drop i s)))) (i + placeOf b (drop i s)) ≡ i + placeOf b (drop i s)
+      by true e =
+          let d = place-drop (drop i s) 4 (leb-true 4 (placeOf b (drop i s)) e) in
+          rw (lt-leb 4 (placeOf b (drop 4 (drop i s))) (omega arith)) (omega arith)
+      by false e = refl
 
   -- s is what stands before b, b, and what follows it
   pub place-split : (s : List ℕ) → placeOf b s < length s → s ≡ take (placeOf b s) s ++ (b ∷ drop (placeOf b s + 1) s)

@@ -9,7 +9,8 @@ use native.Mathlib.Omega.{arith}
 use borrow.Author.Tests.{eq-eqb, eqb-true}
 use lib.Dec.{eqb}
 use lib.ListN.{length, take, drop, getD, length-drop}
-use lib.Seq.{take-all, take-take, getD-drop}
+use lib.Seq.{take-all, take-take, take-nil, drop-drop, getD-drop}
+use native.Mathlib.Nat.{zero-add, suc-add}
 use Rattle.values.proofs.Bools.{both}
 use Rattle.buffers.specs.Text.{sameBytes, firstSpelled}
 
@@ -39,6 +40,19 @@ pub same-more-from : (a b : List ℕ) (i n : ℕ) → i + n < length a → i + n
     → sameBytes (take (suc n) (drop i a)) (take (suc n) (drop i b)) ≡ sameBytes (take n (drop i a)) (take n (drop i b)) && eqb (getD a (i + n) 0) (getD b (i + n) 0)
 same-more-from a b i n h k =
     rw (← (getD-drop i a n 0), ← (getD-drop i b n 0)) (same-more (drop i a) (drop i b) n (omega (arith, length-drop i a)) (omega (arith, length-drop i b)))
+
+drop-taken : (m n : ℕ) (l : List ℕ) → drop m (take (m + n) l) ≡ take n (drop m l)
+drop-taken zero n l = rw zero-add
+drop-taken (suc m) n [] = rw (take-nil (suc m + n), take-nil n)
+drop-taken (suc m) n (x ∷ xs) = rw (suc-add m n) (drop-taken m n xs)
+
+-- eight places are the same where the first four and the second four are
+pub same-eight : (a b : List ℕ) (i : ℕ)
+    → sameBytes (take 4 (drop i a)) (take 4 (drop i b)) && sameBytes (take 4 (drop (i + 4) a)) (take 4 (drop (i + 4) b)) ≡ sameBytes (take 8 (drop i a)) (take 8 (drop i b))
+same-eight a b i =
+    let parts = same-parts 4 (take 8 (drop i a)) (take 8 (drop i b)) in
+    rw (← (drop-drop 4 i a), ← (drop-drop 4 i b))
+    (sym (rw (take-take 4 8 (drop i a) (omega arith), take-take 4 8 (drop i b) (omega arith), drop-taken 4 4 (drop i a), drop-taken 4 4 (drop i b)) at parts))
 
 pub same-true : (a b : List ℕ) → sameBytes a b ≡ true → a ≡ b
 unfolding sameBytes

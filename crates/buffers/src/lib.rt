@@ -9,19 +9,19 @@ ghost use Rattle.buffers.specs.Memory.{put, fits};
 
 // ---- bytes
 
-// Whether eight bytes from i on are the same in both. The tests are joined without branches, so that all eight are one.
+// Whether four bytes from i on are the same in both. The tests are joined without branches, so that those of eight are one.
+fn four_same(a: &[u8], b: &[u8], i: usize) -> bool
+    requires { ⌜ (i + 4 ≤ length (now a)) × (i + 4 ≤ length (now b)) ⌝ }
+    ensures { λ r. ⌜ r ≡ sameBytes (take 4 (drop i (now (a .entry)))) (take 4 (drop i (now (b .entry)))) ⌝ }
+{
+    (a[i] == b[i]) & (a[i + 1] == b[i + 1]) & (a[i + 2] == b[i + 2]) & (a[i + 3] == b[i + 3])
+}
+
 fn eight_same(a: &[u8], b: &[u8], i: usize) -> bool
     requires { ⌜ (i + 8 ≤ length (now a)) × (i + 8 ≤ length (now b)) ⌝ }
     ensures { λ r. ⌜ r ≡ sameBytes (take 8 (drop i (now (a .entry)))) (take 8 (drop i (now (b .entry)))) ⌝ }
 {
-    (a[i] == b[i])
-        & (a[i + 1] == b[i + 1])
-        & (a[i + 2] == b[i + 2])
-        & (a[i + 3] == b[i + 3])
-        & (a[i + 4] == b[i + 4])
-        & (a[i + 5] == b[i + 5])
-        & (a[i + 6] == b[i + 6])
-        & (a[i + 7] == b[i + 7])
+    four_same(a, b, i) & four_same(a, b, i + 4)
 }
 
 // Whether two slices hold the same bytes. The last eight may overlap those before.
@@ -51,19 +51,19 @@ pub fn same(a: &[u8], b: &[u8]) -> bool
     eight_same(a, b, n - 8)
 }
 
-// Whether none of the eight bytes from i on is b, tested as one too.
+// Whether none of the four bytes from i on is b, tested as one too.
+fn none_of_four(s: &[u8], i: usize, b: u8) -> bool
+    requires { ⌜ i + 4 ≤ length (now s) ⌝ }
+    ensures { λ r. ⌜ r ≡ leb 4 (placeOf b (drop i (now (s .entry)))) ⌝ }
+{
+    (s[i] != b) & (s[i + 1] != b) & (s[i + 2] != b) & (s[i + 3] != b)
+}
+
 fn none_of_eight(s: &[u8], i: usize, b: u8) -> bool
     requires { ⌜ i + 8 ≤ length (now s) ⌝ }
     ensures { λ r. ⌜ r ≡ leb 8 (placeOf b (drop i (now (s .entry)))) ⌝ }
 {
-    (s[i] != b)
-        & (s[i + 1] != b)
-        & (s[i + 2] != b)
-        & (s[i + 3] != b)
-        & (s[i + 4] != b)
-        & (s[i + 5] != b)
-        & (s[i + 6] != b)
-        & (s[i + 7] != b)
+    none_of_four(s, i, b) & none_of_four(s, i + 4, b)
 }
 
 fn choose(on: bool, a: usize, b: usize) -> usize
@@ -72,18 +72,23 @@ fn choose(on: bool, a: usize, b: usize) -> usize
     if on { a } else { b }
 }
 
-// Where b stands first, of eight bytes from i on that have it, chosen without branches too.
+// Where b stands first, of the four bytes from i on, or `rest` where they do not have it, chosen without branches too.
+fn first_of_four(s: &[u8], i: usize, b: u8, rest: usize) -> usize
+    requires { ⌜ i + 4 ≤ length (now s) ⌝ }
+    ensures { λ r. ⌜ r ≡ cond (leb 4 (placeOf b (drop i (now (s .entry))))) rest (i + placeOf b (drop i (now (s .entry)))) ⌝ }
+{
+    let from3 = choose(s[i + 3] == b, i + 3, rest);
+    let from2 = choose(s[i + 2] == b, i + 2, from3);
+    let from1 = choose(s[i + 1] == b, i + 1, from2);
+    choose(s[i] == b, i, from1)
+}
+
+// Where b stands first, of eight bytes from i on that have it.
 fn first_of_eight(s: &[u8], i: usize, b: u8) -> usize
     requires { ⌜ (i + 8 ≤ length (now s)) × (placeOf b (drop i (now s)) < 8) ⌝ }
     ensures { λ r. ⌜ r ≡ i + placeOf b (drop i (now (s .entry))) ⌝ }
 {
-    let from6 = choose(s[i + 6] == b, i + 6, i + 7);
-    let from5 = choose(s[i + 5] == b, i + 5, from6);
-    let from4 = choose(s[i + 4] == b, i + 4, from5);
-    let from3 = choose(s[i + 3] == b, i + 3, from4);
-    let from2 = choose(s[i + 2] == b, i + 2, from3);
-    let from1 = choose(s[i + 1] == b, i + 1, from2);
-    choose(s[i] == b, i, from1)
+    first_of_four(s, i, b, first_of_four(s, i + 4, b, i + 7))
 }
 
 // Where the first b stands, or the length.

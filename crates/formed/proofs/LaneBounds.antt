@@ -18,7 +18,9 @@ use Rattle.values.specs.declared.Scalar.{Scalar}
 use Rattle.values.specs.declared.Scalar.the-variants.{Boolean, I32, U32, F32, F16}
 use Rattle.values.specs.Value.{laneBits}
 use Rattle.numeric.specs.Numeric.{one, absLane, signFloat, signLane, leadingLane, onesLane, trailingLane}
-use Rattle.limits.specs.Limits.{above, maxLane, minLane, clampLane, saturateLane, stepLane}
+use Rattle.limits.specs.Limits.{maxLane, minLane, clampLane, saturateLane, stepLane}
+use Rattle.limits.specs.Program.{belowOf, otherOf}
+use Rattle.limits.proofs.Chosen.{max-is, min-is}
 use Rattle.products.specs.Products.{crossLane, summed, dotWord, dotLane}
 use Rattle.numeric.proofs.Counts.{ones-are, leading-are, trailing-are}
 
@@ -73,19 +75,18 @@ number-below x y a b =
     let v = ofBits binary32 y in
     toBits-lt binary32 _ (cond-fits binary32 a v (cond b v u) (ofBits-fits binary32 y) (cond-fits binary32 b v u (ofBits-fits binary32 y) (ofBits-fits binary32 x)))
 
+other-below : (s : Scalar) (second : Bool) (x y : ℕ) → x < bound s → y < bound s → otherOf s second x y < bound s
+other-below Boolean second x y h g = h
+other-below I32 second x y h g = one-of second g h
+other-below U32 second x y h g = one-of second g h
+other-below F32 second x y h g = number-below x y (Ieee.isNan (ofBits binary32 x)) second
+other-below F16 second x y h g = h
+
 pub max-below : (s : Scalar) (x y : ℕ) → x < bound s → y < bound s → maxLane s x y < bound s
-max-below Boolean x y h g = h
-max-below I32 x y h g = one-of (ltb (above x) (above y)) g h
-max-below U32 x y h g = one-of (ltb x y) g h
-max-below F32 x y h g = number-below x y (Ieee.isNan (ofBits binary32 x)) (Ieee.lt (ofBits binary32 x) (ofBits binary32 y))
-max-below F16 x y h g = h
+max-below s x y h g = rw (max-is s x y) at (other-below s (belowOf s x y) x y h g)
 
 pub min-below : (s : Scalar) (x y : ℕ) → x < bound s → y < bound s → minLane s x y < bound s
-min-below Boolean x y h g = h
-min-below I32 x y h g = one-of (ltb (above y) (above x)) g h
-min-below U32 x y h g = one-of (ltb y x) g h
-min-below F32 x y h g = number-below x y (Ieee.isNan (ofBits binary32 x)) (Ieee.lt (ofBits binary32 y) (ofBits binary32 x))
-min-below F16 x y h g = h
+min-below s x y h g = rw (min-is s x y) at (other-below s (belowOf s y x) x y h g)
 
 pub clamp-below : (s : Scalar) (x y z : ℕ) → x < bound s → y < bound s → z < bound s → clampLane s x y z < bound s
 clamp-below s x y z h g k = min-below s (maxLane s x y) z (max-below s x y h g) k

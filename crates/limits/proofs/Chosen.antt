@@ -1,12 +1,21 @@
--- How min and max choose: the test of the code, a first operand that differs from itself or the comparison, is the definition's. Assumes nothing.
-use mathlib.Core.Path.{_≡_, refl, sym, ap, _∙_}
-use mathlib.Core.Bool.{Bool, true, false, _||_, cond}
-use lib.Ieee.{Float, ne, isNan}
-use Rattle.floats.proofs.Order.{differs-is}
+-- min and max are one lane or the other, by the scalar. Assumes nothing.
+use mathlib.Core.Path.{_≡_, refl}
+use Prim.Native.Nat.{ℕ}
+use Rattle.values.specs.declared.Scalar.{Scalar}
+use Rattle.values.specs.declared.Scalar.the-variants.{Boolean, I32, U32, F32, F16}
+use Rattle.limits.specs.Limits.{maxLane, minLane}
+use Rattle.limits.specs.Program.{belowOf, otherOf}
 
-pub chosen : (x y : Float) (t b : Bool) → (ne x x || t) ≡ b → cond b y x ≡ cond (isNan x) y (cond t y x)
-chosen x y t b e = sym (ap (λ (a : Bool). cond a y x) e) ∙ ap (λ (a : Bool). cond (a || t) y x) (differs-is x) ∙ either (isNan x)
-  where
-    either : (a : Bool) → cond (a || t) y x ≡ cond a y (cond t y x)
-    either true = refl
-    either false = refl
+pub max-is : (s : Scalar) (x y : ℕ) → otherOf s (belowOf s x y) x y ≡ maxLane s x y
+max-is Boolean x y = refl
+max-is I32 x y = refl
+max-is U32 x y = refl
+max-is F32 x y = refl
+max-is F16 x y = refl
+
+pub min-is : (s : Scalar) (x y : ℕ) → otherOf s (belowOf s y x) x y ≡ minLane s x y
+min-is Boolean x y = refl
+min-is I32 x y = refl
+min-is U32 x y = refl
+min-is F32 x y = refl
+min-is F16 x y = refl

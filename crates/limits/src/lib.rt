@@ -4,7 +4,8 @@ ghost use mathlib.Core.Path.{_≡_};
 ghost use lib.Ieee.{binary32, ofBits, le};
 ghost use Rattle.half.specs.Convert.{singleOf};
 ghost use Rattle.values.specs.Program.{four, four2, four3};
-ghost use Rattle.limits.specs.Limits.{above, maxFloat, minFloat, maxLane, minLane, clampLane, saturateLane, stepLane};
+ghost use Rattle.limits.specs.Limits.{above, maxLane, minLane, clampLane, saturateLane, stepLane};
+ghost use Rattle.limits.specs.Program.{belowOf, otherFloat, otherOf};
 
 // How far an i32 lies above the least.
 fn above_least(x: u32) -> u32
@@ -13,43 +14,57 @@ fn above_least(x: u32) -> u32
     std::num::wrapping_add_u32(x, 0x8000_0000)
 }
 
-// ---- max
+// ---- max and min
 
-fn max_i32(x: u32, y: u32) -> u32
-    ensures { λ r. ⌜ r ≡ maxLane Scalar.I32 x y ⌝ }
+fn float_below(x: u32, y: u32) -> bool
+    ensures { λ r. ⌜ r ≡ belowOf Scalar.F32 x y ⌝ }
 {
-    numeric::choose(above_least(x) < above_least(y), y, x)
+    floats::f32_of(x) < floats::f32_of(y)
 }
 
-fn max_u32(x: u32, y: u32) -> u32
-    ensures { λ r. ⌜ r ≡ maxLane Scalar.U32 x y ⌝ }
+// Whether the lane x is below y.
+fn below(s: Scalar, x: u32, y: u32) -> bool
+    ensures { λ r. ⌜ r ≡ belowOf s x y ⌝ }
 {
-    numeric::choose(x < y, y, x)
+    match s {
+        Scalar::Boolean => false,
+        Scalar::I32 => above_least(x) < above_least(y),
+        Scalar::U32 => x < y,
+        Scalar::F32 => float_below(x, y),
+        Scalar::F16 => false,
+    }
 }
 
-// Only a NaN differs from itself, and it is below nothing.
-fn max_float(x: f32, y: f32) -> f32
-    ensures { λ r. ⌜ r ≡ maxFloat x y ⌝ }
+// Only a NaN differs from itself.
+fn other_float(second: bool, x: f32, y: f32) -> f32
+    ensures { λ r. ⌜ r ≡ otherFloat second x y ⌝ }
 {
-    if (x != x) | (x < y) { y } else { x }
+    if (x != x) | second { y } else { x }
 }
 
-fn max_f32(x: u32, y: u32) -> u32
-    ensures { λ r. ⌜ r ≡ maxLane Scalar.F32 x y ⌝ }
+fn other_f32(second: bool, x: u32, y: u32) -> u32
+    ensures { λ r. ⌜ r ≡ otherOf Scalar.F32 second x y ⌝ }
 {
-    floats::bits_of(max_float(floats::f32_of(x), floats::f32_of(y)))
+    floats::bits_of(other_float(second, floats::f32_of(x), floats::f32_of(y)))
+}
+
+// The lane y where `second` says so or x is a NaN, otherwise x.
+fn other(s: Scalar, second: bool, x: u32, y: u32) -> u32
+    ensures { λ r. ⌜ r ≡ otherOf s second x y ⌝ }
+{
+    match s {
+        Scalar::Boolean => x,
+        Scalar::I32 => numeric::choose(second, y, x),
+        Scalar::U32 => numeric::choose(second, y, x),
+        Scalar::F32 => other_f32(second, x, y),
+        Scalar::F16 => x,
+    }
 }
 
 pub fn max_lane(s: Scalar, x: u32, y: u32) -> u32
     ensures { λ r. ⌜ r ≡ maxLane s x y ⌝ }
 {
-    match s {
-        Scalar::Boolean => x,
-        Scalar::I32 => max_i32(x, y),
-        Scalar::U32 => max_u32(x, y),
-        Scalar::F32 => max_f32(x, y),
-        Scalar::F16 => x,
-    }
+    other(s, below(s, x, y), x, y)
 }
 
 pub fn max(s: Scalar, x: [u32; 4], y: [u32; 4]) -> [u32; 4]
@@ -63,42 +78,10 @@ pub fn max(s: Scalar, x: [u32; 4], y: [u32; 4]) -> [u32; 4]
     ]
 }
 
-// ---- min
-
-fn min_i32(x: u32, y: u32) -> u32
-    ensures { λ r. ⌜ r ≡ minLane Scalar.I32 x y ⌝ }
-{
-    numeric::choose(above_least(y) < above_least(x), y, x)
-}
-
-fn min_u32(x: u32, y: u32) -> u32
-    ensures { λ r. ⌜ r ≡ minLane Scalar.U32 x y ⌝ }
-{
-    numeric::choose(y < x, y, x)
-}
-
-fn min_float(x: f32, y: f32) -> f32
-    ensures { λ r. ⌜ r ≡ minFloat x y ⌝ }
-{
-    if (x != x) | (y < x) { y } else { x }
-}
-
-fn min_f32(x: u32, y: u32) -> u32
-    ensures { λ r. ⌜ r ≡ minLane Scalar.F32 x y ⌝ }
-{
-    floats::bits_of(min_float(floats::f32_of(x), floats::f32_of(y)))
-}
-
 pub fn min_lane(s: Scalar, x: u32, y: u32) -> u32
     ensures { λ r. ⌜ r ≡ minLane s x y ⌝ }
 {
-    match s {
-        Scalar::Boolean => x,
-        Scalar::I32 => min_i32(x, y),
-        Scalar::U32 => min_u32(x, y),
-        Scalar::F32 => min_f32(x, y),
-        Scalar::F16 => x,
-    }
+    other(s, below(s, y, x), x, y)
 }
 
 pub fn min(s: Scalar, x: [u32; 4], y: [u32; 4]) -> [u32; 4]

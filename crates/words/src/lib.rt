@@ -116,24 +116,13 @@ fn sixteen(w: &[u64], at: usize) -> [u64; 16]
     requires { ⌜ at + 17 ≤ length (now w) ⌝ }
     ensures { λ r. ⌜ r ≡ take 16 (drop (at + 1) (now (w .entry))) ⌝ }
 {
-    [
-        w[at + 1],
-        w[at + 2],
-        w[at + 3],
-        w[at + 4],
-        w[at + 5],
-        w[at + 6],
-        w[at + 7],
-        w[at + 8],
-        w[at + 9],
-        w[at + 10],
-        w[at + 11],
-        w[at + 12],
-        w[at + 13],
-        w[at + 14],
-        w[at + 15],
-        w[at + 16],
-    ]
+    let mut l = [0; 16];
+    let mut i = 0;
+    while i < 16 {
+        l[i] = w[at + 1 + i];
+        i += 1;
+    }
+    l
 }
 
 // The value whose words start at `at`.

@@ -28,6 +28,5 @@ put-head-spec =
     (tie.spec
     (λ c. search needs)
     slice-write-w-2
-    (λ c. search needs)
-    (λ c. search needs)
+    (λ c. search needs) (λ c. search needs)
     returns)

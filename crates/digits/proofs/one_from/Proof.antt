@@ -17,6 +17,5 @@ pub one-from-spec : {M : Type 1} → statement M
 one-from-spec =
     tie.close
     (tie.spec
-    (λ c κs. search needs)
-    (λ c κs. search needs)
+    (λ c κs. search needs) (λ c κs. search needs)
     returns)

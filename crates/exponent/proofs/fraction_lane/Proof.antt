@@ -7,15 +7,7 @@ pub fraction-lane-spec : {M : Type 1} → statement M
 fraction-lane-spec =
     tie.close
     (tie.spec
-    (λ c. search needs)
-    (λ c. search needs)
-    (λ c. search needs)
-    (λ c. search needs)
-    (λ c κs. search needs)
-    (λ c. search needs)
-    (λ c κs. search needs)
-    (λ c. search needs)
-    (λ c. search needs)
+    (λ c. search needs) (λ c. search needs) (λ c. search needs) (λ c. search needs) (λ c κs. search needs) (λ c. search needs) (λ c κs. search needs) (λ c. search needs) (λ c. search needs)
     (λ c. search needs)
     (λ c. rw (c .before .enum-told4 .given .1) (c .frexp .ensures .0))
     (λ c. rw (c .before .enum-told5 .given .1) (c .frexp2 .ensures .0)))

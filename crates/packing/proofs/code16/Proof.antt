@@ -11,14 +11,7 @@ pub code16-spec : {M : Type 1} → statement M
 code16-spec =
     tie.close
     (tie.spec
-    (λ c. search needs)
-    (λ c κs. search needs)
-    (λ c κs. search needs)
-    (λ c. search needs)
-    (λ c κs. search needs)
-    (λ c κs. search needs)
-    (λ c. search needs)
-    (λ c κs. search needs)
+    (λ c. search needs) (λ c κs. search needs) (λ c κs. search needs) (λ c. search needs) (λ c κs. search needs) (λ c κs. search needs) (λ c. search needs) (λ c κs. search needs)
     (λ c. rw (c .before .before .enum-told .given .1) (c .low16 .ensures ∙ norm-code true 16 _ _ (omega arith) (omega arith) (c .before .pack-snorm16 .ensures)))
     (λ c. rw (c .before .before .enum-told2 .given .1) (c .low162 .ensures ∙ norm-code false 16 _ _ (omega arith) (omega arith) (c .before .pack-unorm16 .ensures)))
     (λ c. rw (c .before .enum-told3 .given .1) (search needs)))

@@ -11,16 +11,8 @@ pub code8-spec : {M : Type 1} → statement M
 code8-spec =
     tie.close
     (tie.spec
-    (λ c. search needs)
-    (λ c κs. search needs)
-    (λ c κs. search needs)
-    (λ c. search needs)
-    (λ c κs. search needs)
-    (λ c κs. search needs)
-    (λ c. search needs)
-    (λ c κs. search needs)
-    (λ c. search needs)
-    (λ c κs. search needs)
+    (λ c. search needs) (λ c κs. search needs) (λ c κs. search needs) (λ c. search needs) (λ c κs. search needs) (λ c κs. search needs) (λ c. search needs) (λ c κs. search needs)
+    (λ c. search needs) (λ c κs. search needs)
     (λ c. rw (c .before .before .enum-told .given .1) (c .low8 .ensures ∙ norm-code true 8 _ _ (omega arith) (omega arith) (c .before .pack-snorm8 .ensures)))
     (λ c. rw (c .before .before .enum-told2 .given .1) (c .low82 .ensures ∙ norm-code false 8 _ _ (omega arith) (omega arith) (c .before .pack-unorm8 .ensures)))
     (λ c. rw (c .before .enum-told3 .given .1) (search needs))

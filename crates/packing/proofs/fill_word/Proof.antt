@@ -7,12 +7,5 @@ pub fill-word-spec : {M : Type 1} → statement M
 fill-word-spec =
     tie.close
     (tie.spec
-    (λ c. search needs)
-    (λ c κs. search needs)
-    (λ c. search needs)
-    (λ c κs. search needs)
-    (λ c. search needs)
-    (λ c κs. search needs)
-    (λ c. search needs)
-    (λ c κs. search needs)
+    (λ c. search needs) (λ c κs. search needs) (λ c. search needs) (λ c κs. search needs) (λ c. search needs) (λ c κs. search needs) (λ c. search needs) (λ c κs. search needs)
     (λ c. rw (c .fill-from4 .ensures, c .before .fill-from3 .ensures, c .before .before .fill-from2 .ensures, c .before .before .before .fill-from .ensures)))

@@ -7,12 +7,7 @@ pub lane16-spec : {M : Type 1} → statement M
 lane16-spec =
     tie.close
     (tie.spec
-    (λ c. search needs)
-    (λ c κs. search needs)
-    (λ c. search needs)
-    (λ c κs. search needs)
-    (λ c. search needs)
-    (λ c κs. search needs)
+    (λ c. search needs) (λ c κs. search needs) (λ c. search needs) (λ c κs. search needs) (λ c. search needs) (λ c κs. search needs)
     (λ c. rw (c .before .enum-told .given .1) (search needs))
     (λ c. rw (c .before .enum-told2 .given .1) (search needs))
     (λ c. rw (c .before .enum-told3 .given .1) (search needs)))

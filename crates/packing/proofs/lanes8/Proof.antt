@@ -7,12 +7,5 @@ pub lanes8-spec : {M : Type 1} → statement M
 lanes8-spec =
     tie.close
     (tie.spec
-    (λ c κs. search needs)
-    (λ c κs. search needs)
-    (λ c κs. search needs)
-    (λ c κs. search needs)
-    (λ c κs. search needs)
-    (λ c κs. search needs)
-    (λ c κs. search needs)
-    (λ c κs. search needs)
+    (λ c κs. search needs) (λ c κs. search needs) (λ c κs. search needs) (λ c κs. search needs) (λ c κs. search needs) (λ c κs. search needs) (λ c κs. search needs) (λ c κs. search needs)
     (λ c. rw (c .lane84 .ensures, c .before .low84 .ensures, c .before .before .lane83 .ensures, c .before .before .before .low83 .ensures, c .before .before .before .before .lane82 .ensures, c .before .before .before .before .before .low82 .ensures, c .before .before .before .before .before .before .lane8 .ensures, c .before .before .before .before .before .before .before .low8 .ensures)))
