@@ -10,7 +10,7 @@ use lib.ListN.{length, take, drop, set, length-append}
 use lib.Seq.{append-snoc, drop-cons, lt-length-set, getD-set-same, drop-set-lt, take-set-le}
 use borrow.Author.Tests.{eq-eqb, ne-eqb}
 use Rattle.buffers.specs.Memory.{put}
-use Rattle.printing.specs.Decimal.{places, digits, refusedText, placeText}
+use Rattle.printing.specs.Decimal.{places, digits, refusedText, placeText, refusedAt}
 
 pub length-digits : (n v : ℕ) → length (digits n v) ≡ n
 unfolding digits
@@ -85,3 +85,6 @@ placed-le p = by (eqb p 0)
     by : (b : Bool) → length (cond b [] (9 ∷ digits (places p) p)) ≤ 4
     by true = omega arith
     by false = omega (arith, length-digits (places p) p, places-le p)
+
+pub refused-at-le : (n p : ℕ) → length (refusedAt n p) ≤ 15
+refused-at-le n p = omega (arith, length-append (refusedText n) (placeText p), refused-le n, placed-le p)

@@ -24,3 +24,6 @@ refusedText n = cond (eqb n 0) [] (bytes "refused\t" ++ decimal n)
 -- 02, Q-2: "A line so refused prints the place as a third field." Nothing where there is none.
 unfoldable pub placeText : ℕ → List ℕ
 placeText p = cond (eqb p 0) [] (bytes "\t" ++ decimal p)
+
+abbrev pub refusedAt : ℕ → ℕ → List ℕ
+refusedAt n p = refusedText n ++ placeText p

@@ -4,7 +4,7 @@ ghost use mathlib.Core.List.{[], _∷_};
 ghost use Prim.Native.Nat.{_+_, _<_, _≤_};
 ghost use lib.ListN.{length};
 ghost use Rattle.buffers.specs.Memory.{put};
-ghost use Rattle.printing.specs.Decimal.{digits, places, refusedText, placeText};
+ghost use Rattle.printing.specs.Decimal.{digits, places, refusedText, placeText, refusedAt};
 
 fn wide(x: u8) -> usize
     ensures { λ r. ⌜ r ≡ x ⌝ }
@@ -80,4 +80,13 @@ pub fn put_place(out: &mut [u8], at: usize, place: usize) -> usize
     let n = places_of(place);
     let e = put_byte(out, at, 9);
     put_digits(out, e, n, place)
+}
+
+// A refusal and its place, one after the other; answers the next place.
+pub fn put_refused(out: &mut [u8], at: usize, refusal: u8, place: usize) -> usize
+    requires { ⌜ at + length (refusedAt refusal place) ≤ length (now out) ⌝ }
+    ensures { λ r. ⌜ (r ≡ at + length (refusedAt refusal place)) × (now (out .exit) ≡ put (now (out .entry)) at (refusedAt refusal place)) ⌝ }
+{
+    let e = put_refusal(out, at, refusal);
+    put_place(out, e, place)
 }
