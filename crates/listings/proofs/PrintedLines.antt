@@ -29,6 +29,7 @@ use Rattle.spelling.proofs.TextBytes.{text-without}
 use Rattle.fields.specs.Fields.{tab, fieldAt, argumentCount}
 use Rattle.names.specs.Names.{nameOf, builtinOf}
 use Rattle.lines.specs.Line.{plainCall, castCall, callOf, lineOf, refusalOf, faultPlace, answerOf}
+use Rattle.lines.proofs.Misspelt.{none-told}
 use Rattle.answers.specs.Answers.{secondText, valuesText}
 use Rattle.cutting.specs.Cutting.{mostBytes}
 use Rattle.cutting.specs.Lines.{lines}
@@ -52,7 +53,7 @@ held line = by (sameBytes (nameOf Bitcast) (fieldAt line 0))
 
 line-formed : (line : List ℕ) → refusalOf line ≡ 0 → AnswerFormed (lineOf line)
 unfolding lineOf refused
-line-formed line z = by (ltb mostBytes (length line)) (unrefused line z)
+line-formed line z = by (ltb mostBytes (length line)) (none-told line z)
   where
     by : (b : Bool) → cond b (refused 7) (foldOf (callOf line)) .refusal ≡ 0 → AnswerFormed (cond b (refused 7) (foldOf (callOf line)))
     by true e = absurd (omega arith)
