@@ -21,7 +21,7 @@ use Rattle.misspellings.specs.Laws.{castAt, AllRightly, Numbered, startI
 
 -- ---- of fields
 
-only-first : (k : ℕ) → castAt false k ≡ false
+pub only-first : (k : ℕ) → castAt false k ≡ false
 only-first zero = refl
 only-first (suc k) = refl
 
