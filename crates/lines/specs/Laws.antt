@@ -1,8 +1,7 @@
 -- What holds of the refusals of lines: 02, Q-2, "in lines they replace 3". Statements only; proofs/ shows them.
-use Prim.Native.Nat.{_<_, _≤_}
+use Prim.Native.Nat.{ℕ, _<_, _≤_}
 use mathlib.Core.List.{List}
 use mathlib.Core.Path.{_≡_}
-use Prim.Native.Nat.{ℕ}
 use Rattle.misspellings.specs.Laws.{AllRightly}
 use Rattle.lines.specs.Line.{isCast, refusalOf, faultPlace}
 
