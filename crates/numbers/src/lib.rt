@@ -7,7 +7,7 @@ use reading::ReadInto;
 use sorting::Sorted;
 use writing::Written;
 ghost use mathlib.Core.Path.{_≡_};
-ghost use Prim.Native.Nat.{_<_, _≤_};
+ghost use Prim.Native.Nat.{_+_, _<_, _≤_};
 ghost use Rattle.numbers.specs.Number.{refusalOrCount, lineNumber, readNumber, writtenNumber, sortNumber, diffNumber, sideNumber, placeNumber};
 
 fn refusal_or_count(refusal: u8, n: usize) -> u64
