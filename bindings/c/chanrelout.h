@@ -18,19 +18,20 @@ extern "C" {
 /* ---- refusals
 
    A call is answered, or refused with one of these numbers: the first that applies in the order 7, 1, 2, 3, 4, 5, 6,
-   8; a listing in the order 15, 17, 14, 8. A refusal leaves lent memory as it was. */
+   8; a listing in the order 15, 17, 14, 8. In a line 9, 10 and 11 stand in the place of 3, the leftmost fault first.
+   A refusal leaves lent memory as it was. */
 
 enum chanrelout_refusal {
     CHANRELOUT_ANSWERED = 0,
     CHANRELOUT_UNKNOWN_BUILTIN = 1, /* no builtin has that name or number */
     CHANRELOUT_ARGUMENT_COUNT = 2,  /* the builtin takes another number of arguments; bitcast's type counts as one */
-    CHANRELOUT_BAD_VALUE = 3,       /* a value is misspelled or not well formed, or bitcast's type is none */
+    CHANRELOUT_BAD_VALUE = 3,       /* of a record: a value is not well formed, or bitcast's type is none */
     CHANRELOUT_TYPE_NOT_TAKEN = 4,  /* the builtin does not take an argument of that type in that place */
     CHANRELOUT_TYPES_DIFFER = 5,    /* each argument alone is taken, but not together */
     CHANRELOUT_SIZES_DIFFER = 6,    /* bitcast between types of different sizes */
     CHANRELOUT_LINE_TOO_LONG = 7,   /* the line has more than 400 bytes */
     CHANRELOUT_NO_ROOM = 8,         /* the lent memory is too short for the answer */
-    CHANRELOUT_FAULTY_TYPE = 9,     /* of a value's text: the type is misspelled, or no colon stands behind it */
+    CHANRELOUT_FAULTY_TYPE = 9,     /* of a text: the type is misspelled, or no colon stands behind it */
     CHANRELOUT_FAULTY_LANES = 10,   /* a lane too few or too many */
     CHANRELOUT_FAULTY_DIGIT = 11,   /* a digit that is none, too few or too many digits, or a bool above 1 */
     CHANRELOUT_NO_ANSWER_LINE = 14, /* a line of the listing is no answer line */
@@ -45,8 +46,8 @@ enum chanrelout_refusal {
    line_len its bytes. Above 400 it is refused.
    out      where the answer is written, without a newline and without a NUL. It must not overlap line.
    out_len  how many bytes may be written there. CHANRELOUT_LONGEST_ANSWER are always enough.
-   Answers a number that chanrelout_line_refusal and chanrelout_line_length take apart. Bytes of out past the answer
-   stay as they were; of a refused line, all of them do. */
+   Answers a number that chanrelout_line_refusal, chanrelout_line_length and chanrelout_line_place take apart. Bytes of
+   out past the answer stay as they were; of a refused line, all of them do. */
 
 #define CHANRELOUT_LONGEST_ANSWER 311
 
@@ -58,6 +59,13 @@ static inline enum chanrelout_refusal chanrelout_line_refusal(uint64_t answer)
 }
 
 static inline size_t chanrelout_line_length(uint64_t answer)
+{
+    return (size_t)(answer & 0xFFFFFFFF);
+}
+
+/* Of a line that is refused by 9, 10 or 11: the byte at which it is wrong, counted from 1; one past the line where
+   something is missing at its end. 0 of every other refusal. */
+static inline size_t chanrelout_line_place(uint64_t answer)
 {
     return (size_t)(answer & 0xFFFFFFFF);
 }

@@ -15,6 +15,41 @@ static void print_value(const char *what, const struct chanrelout_value *value, 
     putchar('\n');
 }
 
+/* What was expected where a line is wrong: its field up to there is a type, a colon and lanes. */
+static const char *expected(const char *line, enum chanrelout_refusal fault, size_t place)
+{
+    const char *end = line + place - 1, *field = end;
+    while (field > line && field[-1] != '\t')
+        field--;
+    const char *colon = memchr(field, ':', (size_t)(end - field));
+    if (fault == CHANRELOUT_FAULTY_TYPE || colon == NULL)
+        return "a type, as f32 or vec4<f32>, and a colon before a value's lanes";
+    /* one digit in a bool's name or behind its vec is a count, and so is one on each side of a matrix's x */
+    size_t lanes = field[0] == 'v' ? (size_t)(field[3] - '0') : 1;
+    if (field[0] == 'm')
+        lanes = (size_t)(field[3] - '0') * (size_t)(field[5] - '0');
+    const char *scalar = lanes == 1 ? field : memchr(field, '<', (size_t)(colon - field)) + 1;
+    size_t digits = scalar[0] == 'b' ? 1 : scalar[1] == '1' ? 4 : 8, due = lanes - 1, in_lane = 0;
+    for (const char *byte = colon + 1; byte < end; byte++) {
+        in_lane = *byte == ',' ? 0 : in_lane + 1;
+        due -= *byte == ',';
+    }
+    if (in_lane == digits)
+        return due == 0 ? "the end of the value" : fault == CHANRELOUT_FAULTY_DIGIT ? "a comma" : "a comma and another lane";
+    return digits == 1 ? "0 or 1" : "a digit, 0 to 9 or A to F";
+}
+
+/* A misspelled line with a caret under the byte; a tab is shown as an arrow. */
+static void print_misspelled(const char *line, uint64_t answer)
+{
+    enum chanrelout_refusal fault = chanrelout_line_refusal(answer);
+    size_t place = chanrelout_line_place(answer);
+    printf("misspelled at byte %zu: expected %s\n    ", place, expected(line, fault, place));
+    for (const char *byte = line; *byte != 0; byte++)
+        fputs(*byte == '\t' ? "\u2192" : (char[]){*byte, 0}, stdout);
+    printf("\n    %*s\n", (int)place, "^");
+}
+
 static uint64_t bits_of(float x)
 {
     uint32_t bits;
@@ -59,6 +94,11 @@ int main(void)
     if (chanrelout_line_refusal(answer) != CHANRELOUT_ANSWERED)
         return 1;
     printf("%-16s %.*s\n", "frexp", (int)chanrelout_line_length(answer), out);
+
+    /* A misspelled line tells the byte. */
+    line = "abs\tvec2<f16>:3C00,400G";
+    answer = chanrelout_line((const uint8_t *)line, strlen(line), (uint8_t *)out, sizeof out);
+    print_misspelled(line, answer);
 
     /* A value's text, read with the place of its fault, and written. */
     const char *text = "vec2<f16>:3C00,400G";

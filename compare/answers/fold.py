@@ -1,8 +1,9 @@
 #!/usr/bin/env python3
 """fold.py <lines >answers
 
-Answers each line of standard input as foldlines must: a reading of docs/01-scope.md ("01" below), with
-docs/DECISIONS.md where it leaves a choice, written from their words and not from the proved code.
+Answers each line of standard input as foldlines must: a reading of docs/01-scope.md and of Q-2 in
+docs/02-change-requests.md, with docs/DECISIONS.md where they leave a choice, written from their words and not from the
+proved code. "01" and "Q-2" below are those two.
 
 A lane is its bits. What is worked out is worked out in whole numbers and exact fractions, never in floats:
 `Format.number` says which number a float's bits are, and `Format.rounded` alone turns a number into a float's bits.
@@ -457,31 +458,48 @@ BUILTINS = {
 # ---- lines: one character for each byte
 
 LONGEST_LINE = 400
+WRONG_TYPE, WRONG_LANE_COUNT, WRONG_DIGIT = 9, 10, 11  # Q-2's, which stand in 3's place
 
 
 class Refused(Exception):
-    """With 01's number."""
+    """With 01's number, and the place of Q-2 where the number is 9, 10 or 11."""
 
 
-def read_type(field):
+def read_type(field, place):
+    """The type that a field spells. The field's first byte stands at `place` in the line."""
     if field not in TYPES:
-        raise Refused(3)
+        raise Refused(WRONG_TYPE, place)
     return TYPES[field]
 
 
-def read_value(field):
+def read_value(field, place):
+    """The value that a field spells. The field's first byte stands at `place` in the line."""
     spelling, colon, text = field.partition(':')
     if not colon:
-        raise Refused(3)
-    type = read_type(spelling)
+        raise Refused(WRONG_TYPE, place)
+    type = read_type(spelling, place)
+    faults = list(lane_faults(type, text, place + len(spelling) + 1))
+    if faults:
+        # the leftmost, and 11 before 10 at one place
+        raise Refused(*min(faults, key=lambda fault: (fault[1], -fault[0])))
+    return Value(type, tuple(int(lane, 16) for lane in text.split(',')))
+
+
+def lane_faults(type, text, place):
+    """The faults of the lanes' text, which starts at `place`: the number of each and its place."""
     digits = '01' if type.scalar == 'bool' else '0123456789ABCDEF'
     lanes = text.split(',')
-    if len(lanes) != type.lane_count:
-        raise Refused(3)
-    for lane in lanes:
-        if len(lane) != DIGITS[type.scalar] or any(digit not in digits for digit in lane):
-            raise Refused(3)
-    return Value(type, tuple(int(lane, 16) for lane in lanes))
+    for index, lane in enumerate(lanes):
+        if index >= type.lane_count:
+            yield WRONG_LANE_COUNT, place - 1
+        for at, digit in enumerate(lane):
+            if digit not in digits or at >= DIGITS[type.scalar]:
+                yield WRONG_DIGIT, place + at
+        if len(lane) < DIGITS[type.scalar]:
+            yield WRONG_DIGIT, place + len(lane)
+        place += len(lane) + 1
+    if len(lanes) < type.lane_count:
+        yield WRONG_LANE_COUNT, place - 1
 
 
 def fold(line):
@@ -494,14 +512,15 @@ def fold(line):
     builtin = BUILTINS[name]
     if len(fields) != len(builtin.takes):
         raise Refused(2)
-    arguments, types = [], []
+    arguments, types, place = [], [], len(name) + 2
     for index, field in enumerate(fields):
         if name == 'bitcast' and index == 0:
-            arguments.append(read_type(field))
+            arguments.append(read_type(field, place))
             types.append(arguments[-1])
         else:
-            arguments.append(read_value(field))
+            arguments.append(read_value(field, place))
             types.append(arguments[-1].type)
+        place += len(field) + 1
     if any(type not in taken for type, taken in zip(types, builtin.takes)):
         raise Refused(4)
     if not builtin.together(*types):

@@ -12,6 +12,7 @@
 //!
 //! assert_eq!(fold(Builtin::Min, &[Value::from(1), Value::from(1.0f32)]), Err(Refusal::TypesDiffer));
 //! assert_eq!(fold_line(b"frexp\tf32:00000001")?, "f32:3F000000\ti32:FFFFFF6C");
+//! assert_eq!(fold_line(b"frexp\tf32:0000000g").map_err(|refusal| refusal.number()), Err(11));
 //!
 //! // One order, NaNs and both zeros included.
 //! assert!(Value::from(-0.0f32) < Value::from(0.0f32) && Value::from(f32::INFINITY) < Value::from(f32::NAN));
@@ -38,7 +39,7 @@ pub use call::{fold, fold_words, Answer, Call, ANSWER_WORDS, CALL_WORDS};
 pub use diff::{diff, first_difference, Difference, Differences, Kind};
 pub use line::{fold_line, fold_line_into, LONGEST_ANSWER};
 pub use listing::{sort_listing, sort_listing_into, LONGEST_LISTING, MOST_LINES};
-pub use refusal::Refusal;
+pub use refusal::{InLine, Refusal};
 pub use value::{BadValue, Fault, Misspelled, Scalar, Size, Type, Value, Width};
 
 /// The half nearest to an `f32`, both as bits: ties to the even one, infinity from halfway past the greatest half.

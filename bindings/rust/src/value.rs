@@ -172,7 +172,29 @@ pub enum Fault {
     Digit,
 }
 
-/// A text that spells no value: what is wrong with it, and where.
+impl Fault {
+    /// Its number in document 02.
+    pub fn number(self) -> u8 {
+        match self {
+            Fault::Type => 9,
+            Fault::Lanes => 10,
+            Fault::Digit => 11,
+        }
+    }
+
+    /// The fault of a number, 9 to 11.
+    #[inline]
+    pub fn from_number(number: u8) -> Option<Fault> {
+        match number {
+            9 => Some(Fault::Type),
+            10 => Some(Fault::Lanes),
+            11 => Some(Fault::Digit),
+            _ => None,
+        }
+    }
+}
+
+/// A text that spells no value, or a line with such a one: what is wrong with it, and where.
 #[derive(Clone, Copy, Debug, PartialEq, Eq, Hash)]
 pub struct Misspelled {
     /// What is wrong.
@@ -193,6 +215,34 @@ impl fmt::Display for Misspelled {
 }
 
 impl Error for Misspelled {}
+
+impl Misspelled {
+    /// What was expected at the place, which is this fault's in the line or the value's text.
+    pub(crate) fn expected(self, line: &[u8]) -> &'static str {
+        let before = &line[..line.len().min(self.place - 1)];
+        let field = before.rsplit(|&byte| byte == b'\t').next().unwrap_or_default();
+        let mut parts = field.split(|&byte| byte == b':' || byte == b',');
+        let ty = parts.next().and_then(|ty| std::str::from_utf8(ty).ok()?.parse::<Type>().ok());
+        let lanes: Vec<&[u8]> = parts.collect();
+        let ty = match (self.fault, ty) {
+            (Fault::Type, _) | (_, None) => return "a type, as f32 or vec4<f32>, and a colon before a value's lanes",
+            (_, Some(ty)) => ty,
+        };
+        let digits = match ty.scalar() {
+            Scalar::Bool => 1,
+            Scalar::F16 => 4,
+            Scalar::I32 | Scalar::U32 | Scalar::F32 => 8,
+        };
+        let full = lanes.last().map_or(false, |lane| lane.len() == digits);
+        match (self.fault, full, lanes.len() == ty.lane_count()) {
+            (_, true, true) => "the end of the value",
+            (Fault::Digit, true, false) => "a comma",
+            (Fault::Lanes, ..) => "a comma and another lane",
+            (..) if ty.scalar() == Scalar::Bool => "0 or 1",
+            (..) => "a digit, 0 to 9 or A to F",
+        }
+    }
+}
 
 impl Value {
     /// The value of a type with these lanes. There must be as many as the type has; a bool lane is 0 or 1, an f16 lane
@@ -319,13 +369,11 @@ impl FromStr for Value {
         let mut words = [0; VALUE_WORDS];
         // SAFETY: each pointer and length are those of a slice, and a shared and an exclusive one do not overlap.
         let answer = unsafe { ffi::chanrelout_read_value(text.as_ptr(), text.len(), words.as_mut_ptr(), words.len()) };
-        let fault = match answer >> 32 {
-            0 => return Ok(Value::of_words(&words).expect("what is read is a value")),
-            9 => Fault::Type,
-            10 => Fault::Lanes,
-            11 => Fault::Digit,
-            number => unreachable!("a text is read with fault {number}"),
-        };
+        let number = (answer >> 32) as u8;
+        if number == 0 {
+            return Ok(Value::of_words(&words).expect("what is read is a value"));
+        }
+        let fault = Fault::from_number(number).expect("a text is read, or has a fault");
         Err(Misspelled { fault, place: (answer & 0xFFFF_FFFF) as usize })
     }
 }

@@ -19,6 +19,7 @@ fn answered_lines() -> Vec<(Vec<u8>, Vec<u8>)> {
 fn printed<T: ToString>(folded: Result<T, Refusal>) -> String {
     match folded {
         Ok(answer) => answer.to_string(),
+        Err(Refusal::Misspelled(wrong)) => format!("refused\t{}\t{}", wrong.fault.number(), wrong.place),
         Err(refusal) => format!("refused\t{}", refusal.number()),
     }
 }

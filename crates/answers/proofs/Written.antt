@@ -41,7 +41,7 @@ module _ (room : ℕ) (x : Answer) where
 -- ---- what the code does of the answer, by its refusal and its room
 
 module _ (o : List ℕ) (x : Answer) where
-  pub refused-so : {r : ℕ} → r ≡ x .refusal → (r ≡ 0 → ⊥) → (record { refusal = r; len = 0 } ≡ answeredIn (length o) x) × (o ≡ put o 0 (spelledIn (length o) x))
+  pub refused-so : {r : ℕ} → r ≡ x .refusal → (r ≡ 0 → ⊥) → (record { refusal = r; len = 0; place = 0 } ≡ answeredIn (length o) x) × (o ≡ put o 0 (spelledIn (length o) x))
   unfolding answeredIn
   refused-so e h =
       let w = in-refused (length o) x (λ z. h (e ∙ z)) in
@@ -55,14 +55,14 @@ module _ (o : List ℕ) (x : Answer) where
     text-length : length (valuesText x) ≡ length (textOf v) + length (secondText u)
     text-length = ap length (sym text) ∙ length-append (textOf v) (secondText u)
 
-    pub short-so : length o < length (textOf v) + length (secondText u) → (record { refusal = 8; len = 0 } ≡ answeredIn (length o) x) × (o ≡ put o 0 (spelledIn (length o) x))
+    pub short-so : length o < length (textOf v) + length (secondText u) → (record { refusal = 8; len = 0; place = 0 } ≡ answeredIn (length o) x) × (o ≡ put o 0 (spelledIn (length o) x))
     unfolding answeredIn
     short-so h =
         let w = in-short (length o) x z (omega (arith, text-length)) in
         (rw (w .0, w .1), sym (ap (put o 0) (w .1) ∙ put-nil o 0))
 
     pub answered-so : length (textOf v) + length (secondText u) ≤ length o → {n r : ℕ} {o′ o″ : List ℕ} → Made o 0 (textOf v) n o′ → Made o′ n (secondText u) r o″
-        → (record { refusal = 0; len = r } ≡ answeredIn (length o) x) × (o″ ≡ put o 0 (spelledIn (length o) x))
+        → (record { refusal = 0; len = r; place = 0 } ≡ answeredIn (length o) x) × (o″ ≡ put o 0 (spelledIn (length o) x))
     unfolding answeredIn
     answered-so h f g =
         let room : 0 + length (textOf v ++ secondText u) ≤ length o = omega (arith, length-append (textOf v) (secondText u)) in

@@ -27,4 +27,4 @@ unfoldable pub spelledIn : ℕ → Answer → List ℕ
 spelledIn room x = cond (eqb (toldIn room x) 0) (valuesText x) []
 
 unfoldable pub answeredIn : ℕ → Answer → LineAnswer
-answeredIn room x = record { refusal = toldIn room x; len = length (spelledIn room x) }
+answeredIn room x = record { refusal = toldIn room x; len = length (spelledIn room x); place = 0 }

@@ -9,10 +9,11 @@ ghost use Rattle.builtins.specs.declared.Answer.{Answer};
 ghost use Rattle.answers.specs.Answers.{secondText, answeredIn, spelledIn};
 ghost use Rattle.answers.specs.Program.{Answers, secondLength};
 
-// A line's answer in lent memory: its length, or the number of the refusal.
+// A line's answer in lent memory: its length, or the number of the refusal and the place of a misspelling, 0 where there is none.
 pub struct LineAnswer {
     pub refusal: u8,
     pub len: usize,
+    pub place: usize,
 }
 
 // How many bytes spell a second value of the type at p: none where there is none.
@@ -44,16 +45,22 @@ pub fn put_answer(out: &mut [u8], refusal: u8, a: &[u64]) -> LineAnswer
         return LineAnswer {
             refusal: refusal,
             len: 0,
+            place: 0,
         };
     }
     let first = writing::text_len(words::place_at(a, 0));
     if out.len() < first + second_len(words::place_at(a, 17)) {
-        return LineAnswer { refusal: 8, len: 0 };
+        return LineAnswer {
+            refusal: 8,
+            len: 0,
+            place: 0,
+        };
     }
     let next = writing::put_value(out, 0, a, 0);
     let len = put_second(out, next, a);
     LineAnswer {
         refusal: 0,
         len: len,
+        place: 0,
     }
 }

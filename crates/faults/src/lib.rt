@@ -6,13 +6,25 @@ ghost use Prim.Native.Nat.{_+_, _^_, _≤_, _<_};
 ghost use lib.ListN.{length};
 ghost use Rattle.values.specs.Value.{kindAt};
 ghost use Rattle.spelling.specs.Hex.{digitBound};
-ghost use Rattle.spelling.specs.Read.{lanesAt, readLanes, readValue};
+ghost use Rattle.spelling.specs.Read.{faultNumber, lanesAt, readLanes, readValue};
 ghost use Rattle.faults.specs.Program.{faulty, faultOf, toldOf};
 
 // What is wrong with a spelling, and at which place from 1.
 pub struct Faulty {
     pub fault: Fault,
     pub place: usize,
+}
+
+// The number that a fault is told by, 0 where there is none.
+pub fn fault_number(f: Fault) -> u8
+    ensures { λ r. ⌜ r ≡ faultNumber f ⌝ }
+{
+    match f {
+        Fault::Nothing => 0,
+        Fault::TypeSpelling => 9,
+        Fault::Lanes => 10,
+        Fault::Digit => 11,
+    }
 }
 
 fn fault_at(fault: Fault, place: usize) -> Faulty

@@ -112,6 +112,18 @@ count-most (x ∷ xs) = by (eqb x tab) (count-most xs)
     by true ih = omega arith
     by false ih = omega arith
 
+-- a line has one field more than tabs
+field-more : (x n : ℕ) (fs : List (List ℕ)) (t : Bool) → length fs ≡ suc n → length (cond t ([] ∷ fs) (onFirst x fs)) ≡ suc (cond t 1 0 + n)
+unfolding onFirst
+field-more x n fs true e = omega arith
+field-more x n [] false e = absurd (omega arith)
+field-more x n (f ∷ fs) false e = omega arith
+
+pub field-count : (s : List ℕ) → length (fields s) ≡ suc (argumentCount s)
+unfolding fields argumentCount
+field-count [] = refl
+field-count (x ∷ xs) = field-more x (argumentCount xs) (fields xs) (eqb x tab) (field-count xs)
+
 -- ---- fields taken off a line, one after another
 
 -- the first field of t has n bytes, and u is what follows it

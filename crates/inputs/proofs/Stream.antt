@@ -11,9 +11,8 @@ use borrow.Author.Tests.{lt-ltb, ltb-true, ltb-false, eqb-true, eqb-false}
 use Rattle.buffers.specs.Text.{placeOf}
 use Rattle.buffers.proofs.FirstPlace.{place-le}
 use Rattle.cutting.specs.Lines.{newlineAt, lines, afterNewline}
-use Rattle.builtins.specs.declared.Answer.{Answer}
 use Rattle.builtins.specs.Fold.{refused}
-use Rattle.lines.specs.Line.{lineOf, refusalOf}
+use Rattle.lines.specs.Line.{lineOf, refusalOf, faultPlace}
 use Rattle.cutting.specs.Cutting.{mostBytes, ended, over, due, pieceSize, pieceSkip}
 use Rattle.stream.specs.Printed.{answerText, answerLine, answerLines, printed, printedFrom}
 use Rattle.stream.specs.Stream.{pieceText, partText, partSize, partSkip}
@@ -26,13 +25,13 @@ long-line : (l : List ℕ) → mostBytes < length l → lineOf l ≡ refused 7
 unfolding lineOf
 long-line l h = rw (lt-ltb mostBytes (length l) h)
 
-long : (l : List ℕ) → mostBytes < length l → refusalOf l ≡ 7
-unfolding refusalOf refused
-long l h = ap (λ (a : Answer). a .refusal) (long-line l h)
+long : (l : List ℕ) → mostBytes < length l → (refusalOf l ≡ 7) × (faultPlace l ≡ 0)
+unfolding refusalOf faultPlace refused
+long l h = rw (long-line l h) (refl, refl)
 
 pub same-long : (l m : List ℕ) → mostBytes < length l → mostBytes < length m → answerLine l ≡ answerLine m
 unfolding answerLine answerText
-same-long l m h k = rw (long l h, long m k)
+same-long l m h k = rw (long l h .0, long l h .1, long m k .0, long m k .1)
 
 module _ (s rest : List ℕ) where
   printed-ended : newlineAt s < length s → printed (s ++ rest) ≡ answerLine (take (newlineAt s) s) ++ printed (drop (suc (newlineAt s)) s ++ rest)

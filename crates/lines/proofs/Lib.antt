@@ -1,1 +1,2 @@
+pub mod Misspelt
 pub mod Written

@@ -1,8 +1,8 @@
 -- What a line gives: 01, "Lines". Definitions only.
 use Prim.Native.Nat.{ℕ}
-use mathlib.Core.Bool.{cond}
+use mathlib.Core.Bool.{Bool, cond}
 use mathlib.Core.List.{List}
-use lib.Dec.{ltb}
+use lib.Dec.{eqb, ltb}
 use lib.ListN.{length}
 use Rattle.values.specs.declared.Kind.{Kind}
 use Rattle.values.specs.declared.Kind.the-variants.{Empty}
@@ -19,10 +19,12 @@ use Rattle.spelling.specs.Types.{kindOf}
 use Rattle.spelling.specs.Read.{readValue}
 use Rattle.names.specs.Names.{nameOf, builtinOf}
 use Rattle.fields.specs.Fields.{fieldAt, argumentCount}
+use Rattle.misspellings.specs.declared.Misspelling.{Misspelling}
+use Rattle.misspellings.specs.Misspellings.{lineFault}
 use Rattle.answers.specs.declared.LineAnswer.{LineAnswer}
-use Rattle.answers.specs.Answers.{valuesText, toldIn, spelledIn, answeredIn}
+use Rattle.answers.specs.Answers.{valuesText, toldIn, spelledIn}
 
--- ---- the call that a line spells: a misspelled or missing value is the empty one there, and so refused in 3's place
+-- ---- the call that a line spells: a misspelled or missing value is the empty one there, so that the misspelling is told in 3's place
 
 abbrev pub valueAt : List ℕ → ℕ → Value
 valueAt line k = readValue (fieldAt line k) .value
@@ -37,9 +39,12 @@ plainCall b n line = record { builtin = b; count = n; target = Empty; a = valueA
 unfoldable pub castCall : Builtin → ℕ → List ℕ → Call
 castCall b n line = record { builtin = b; count = n; target = typeAt line 1; a = valueAt line 2; b = emptyValue; c = emptyValue }
 
+abbrev pub isCast : List ℕ → Bool
+isCast line = sameBytes (nameOf Bitcast) (fieldAt line 0)
+
 unfoldable pub callOf : List ℕ → Call
 callOf line =
-    cond (sameBytes (nameOf Bitcast) (fieldAt line 0)) (castCall (builtinOf (fieldAt line 0)) (argumentCount line) line)
+    cond (isCast line) (castCall (builtinOf (fieldAt line 0)) (argumentCount line) line)
     (plainCall (builtinOf (fieldAt line 0)) (argumentCount line) line)
 
 -- ---- its answer
@@ -48,19 +53,32 @@ callOf line =
 unfoldable pub lineOf : List ℕ → Answer
 lineOf line = cond (ltb mostBytes (length line)) (refused 7) (foldOf (callOf line))
 
-unfoldable pub refusalOf : List ℕ → ℕ
-refusalOf line = lineOf line .refusal
-
 unfoldable pub answerOf : List ℕ → List ℕ
 answerOf line = valuesText (lineOf line)
+
+-- ---- its refusal: "9 type spelling or colon, 10 lane count, 11 digit; in lines they replace 3, in its place in the order, the leftmost fault first"
+
+abbrev pub faultOf : List ℕ → Misspelling
+faultOf line = lineFault (isCast line) line
+
+-- what is told in the place of a refusal n
+abbrev pub inPlaceOf3 : ℕ → List ℕ → ℕ
+inPlaceOf3 n line = cond (eqb n 3) (faultOf line .refusal) n
+
+unfoldable pub refusalOf : List ℕ → ℕ
+refusalOf line = inPlaceOf3 (lineOf line .refusal) line
+
+-- "the byte counted from 1 in the line"; 0 where no misspelling is told
+unfoldable pub faultPlace : List ℕ → ℕ
+faultPlace line = cond (eqb (lineOf line .refusal) 3) (faultOf line .place) 0
 
 -- ---- a line's answer in lent memory of a size
 
 unfoldable pub refusalIn : ℕ → List ℕ → ℕ
-refusalIn room line = toldIn room (lineOf line)
+refusalIn room line = inPlaceOf3 (toldIn room (lineOf line)) line
 
 unfoldable pub writtenIn : ℕ → List ℕ → List ℕ
 writtenIn room line = spelledIn room (lineOf line)
 
 unfoldable pub lineAnswer : ℕ → List ℕ → LineAnswer
-lineAnswer room line = answeredIn room (lineOf line)
+lineAnswer room line = record { refusal = refusalIn room line; len = length (writtenIn room line); place = faultPlace line }

@@ -2,6 +2,7 @@
 use answers::LineAnswer;
 use cutting::MOST_BYTES;
 ghost use mathlib.Core.Path.{_≡_};
+ghost use Prim.Native.Nat.{_≤_};
 ghost use lib.ListN.{length};
 ghost use Rattle.buffers.specs.Memory.{put};
 ghost use Rattle.calls.specs.Table.{builtinAt};
@@ -9,6 +10,7 @@ ghost use Rattle.calls.specs.Words as Words;
 ghost use Rattle.spelling.specs.Hex.{DigitTable};
 ghost use Rattle.fields.specs.Fields.{fieldAt, argumentCount};
 ghost use Rattle.lines.specs.Line.{castCall, plainCall, callOf, lineAnswer, writtenIn};
+ghost use Rattle.lines.specs.Program.{misspelledLine};
 
 // ---- the call that a line spells, as words
 
@@ -68,17 +70,38 @@ fn put_call(w: &mut [u64], line: &[u8])
 
 // ---- its answer
 
+// What is told of a line whose call is refused by 3: what is misspelled, and where.
+fn misspelled(line: &[u8]) -> LineAnswer
+    requires { ⌜ length (now line) ≤ 400 ⌝ }
+    ensures { λ r. ⌜ r ≡ misspelledLine (now (line .entry)) ⌝ }
+{
+    let cast = buffers::same(b"bitcast", fields::field(line, 0));
+    let m = misspellings::line_fault(line, cast);
+    LineAnswer {
+        refusal: m.refusal,
+        len: 0,
+        place: m.place,
+    }
+}
+
 // Folds a line. The answer is written at the start of the lent memory, without a newline; a refusal leaves the memory as it is.
 pub fn fold_line(line: &[u8], out: &mut [u8]) -> LineAnswer
     ensures { λ r. ⌜ (r ≡ lineAnswer (length (now (out .entry))) (now (line .entry)))
         × (now (out .exit) ≡ put (now (out .entry)) 0 (writtenIn (length (now (out .entry))) (now (line .entry)))) ⌝ }
 {
     if line.len() > MOST_BYTES {
-        return LineAnswer { refusal: 7, len: 0 };
+        return LineAnswer {
+            refusal: 7,
+            len: 0,
+            place: 0,
+        };
     }
     let mut call: [u64; 54] = [0; 54];
     put_call(&mut call, line);
     let mut answer: [u64; 34] = [0; 34];
     let refusal = builtins::fold(&call, &mut answer);
+    if refusal == 3 {
+        return misspelled(line);
+    }
     answers::put_answer(out, refusal, &answer)
 }

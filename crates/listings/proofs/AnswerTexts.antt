@@ -2,16 +2,17 @@
 use Prim.Native.Nat.{ℕ, zero, suc, _+_, _/_, _%_, _<_, _≤_}
 use mathlib.Core.List.{List, [], _∷_, _++_, append-nil}
 use mathlib.Core.Bool.{Bool, true, false, cond, _&&_}
+use mathlib.Core.Logic.{inl, inr}
 use mathlib.Core.Path.{_≡_, refl, ap, sym, _∙_}
 use native.Mathlib.Nat.{mod-lt}
 use native.Mathlib.Omega.{arith}
 use lib.ListN.{length, length-append}
 use lib.Seq.{take-append-seam, drop-append-add}
-use lib.Dec.{lit<, ltb, leb}
-use borrow.Author.Tests.{ne-eqb, le-leb, leb-true}
+use lib.Dec.{lit<, eqb, ltb, leb}
+use borrow.Author.Tests.{ne-eqb, eqb-true, eqb-false, le-leb, leb-true}
 use Rattle.values.specs.Value.{every, emptyValue, wellFormed}
 use Rattle.values.specs.declared.Value.{Value}
-use Rattle.values.proofs.Bools.{both, every-both}
+use Rattle.values.proofs.Bools.{both, either, every-both}
 use Rattle.buffers.specs.Text.{placeOf, bytes, sameBytes}
 use Rattle.buffers.proofs.FirstPlace.{place-le, place-past, place-after, without}
 use Rattle.buffers.proofs.Lookup.{same-false}
@@ -20,8 +21,8 @@ use Rattle.spelling.specs.Write.{textOf}
 use Rattle.spelling.proofs.ReadsBack.{read-back}
 use Rattle.spelling.proofs.TextBytes.{text-tabless}
 use Rattle.fields.specs.Fields.{tab, fields}
-use Rattle.printing.specs.Decimal.{digits, places, refusedText}
-use Rattle.printing.proofs.Digits.{length-digits, refused-some}
+use Rattle.printing.specs.Decimal.{digits, places, refusedText, placeText}
+use Rattle.printing.proofs.Digits.{length-digits, refused-some, placed-none, placed-some}
 use Rattle.listings.specs.Answers.{faultless, decimalDigit, refusedLine, valuesLine, isNumber, isPair, saysRefused, ofFields, readAnswer}
 use Rattle.listings.proofs.Parted.{whole, cut-first}
 
@@ -94,12 +95,21 @@ digits-number : (k v : ℕ) → 1 ≤ k → k ≤ 3 → isNumber (digits k v) �
 unfolding isNumber
 digits-number k v l m = rw (length-digits k v, le-leb 1 k l, le-leb k 3 m) (digits-decimal k v)
 
--- what is printed for a refused line is an answer line
-pub refusal-read : (n : ℕ) → (n ≡ 0 → ⊥) → readAnswer (refusedText n) ≡ refusedLine
+decimal-number : (v : ℕ) → isNumber (digits (places v) v) ≡ true
 unfolding places
-refusal-read n h = rw (refused-some n h) (refused-read (digits (places n) n) (by (ltb n 10) (ltb n 100)))
+decimal-number v = by (ltb v 10) (ltb v 100)
   where
-    by : (a b : Bool) → isNumber (digits (cond a 1 (cond b 2 3)) n) ≡ true
-    by true b = digits-number 1 n (omega arith) (omega arith)
-    by false true = digits-number 2 n (omega arith) (omega arith)
-    by false false = digits-number 3 n (omega arith) (omega arith)
+    by : (a b : Bool) → isNumber (digits (cond a 1 (cond b 2 3)) v) ≡ true
+    by true b = digits-number 1 v (omega arith) (omega arith)
+    by false true = digits-number 2 v (omega arith) (omega arith)
+    by false false = digits-number 3 v (omega arith) (omega arith)
+
+-- what is printed for a refused line is an answer line, with a place or without
+pub refusal-read : (n p : ℕ) → (n ≡ 0 → ⊥) → readAnswer (refusedText n ++ placeText p) ≡ refusedLine
+refusal-read n p h =
+    elim (either (eqb p 0)) [
+      | inl e ↦ rw (placed-none p (eqb-true p 0 e), append-nil, refused-some n h) (refused-read (digits (places n) n) (decimal-number n))
+      | inr e ↦
+          rw (placed-some p (eqb-false p 0 e), refused-some n h)
+          (refused-place-read (digits (places n) n) (digits (places p) p) (decimal-number n) (decimal-number p))
+    ]

@@ -28,11 +28,12 @@ use Rattle.spelling.proofs.WrittenSo.{read-lanes}
 use Rattle.spelling.proofs.TextBytes.{text-without}
 use Rattle.fields.specs.Fields.{tab, fieldAt, argumentCount}
 use Rattle.names.specs.Names.{nameOf, builtinOf}
-use Rattle.lines.specs.Line.{plainCall, castCall, callOf, lineOf, refusalOf, answerOf}
+use Rattle.lines.specs.Line.{plainCall, castCall, callOf, lineOf, refusalOf, faultPlace, answerOf}
+use Rattle.lines.proofs.Misspelt.{none-told}
 use Rattle.answers.specs.Answers.{secondText, valuesText}
 use Rattle.cutting.specs.Cutting.{mostBytes}
 use Rattle.cutting.specs.Lines.{lines}
-use Rattle.printing.specs.Decimal.{places, digits, refusedText}
+use Rattle.printing.specs.Decimal.{places, digits, refusedText, placeText, refusedAt}
 use Rattle.stream.specs.Printed.{answerText, answerLine, answerLines, printed}
 use Rattle.cutting.proofs.Cut.{lines-ended}
 use Rattle.listings.specs.Answers.{refusedLine, valuesLine, isPair, readAnswer}
@@ -51,8 +52,8 @@ held line = by (sameBytes (nameOf Bitcast) (fieldAt line 0))
     by false = record { a = read-lanes (fieldAt line 1); b = read-lanes (fieldAt line 2); c = read-lanes (fieldAt line 3) }
 
 line-formed : (line : List ℕ) → refusalOf line ≡ 0 → AnswerFormed (lineOf line)
-unfolding refusalOf lineOf refused
-line-formed line = by (ltb mostBytes (length line))
+unfolding lineOf refused
+line-formed line z = by (ltb mostBytes (length line)) (none-told line z)
   where
     by : (b : Bool) → cond b (refused 7) (foldOf (callOf line)) .refusal ≡ 0 → AnswerFormed (cond b (refused 7) (foldOf (callOf line)))
     by true e = absurd (omega arith)
@@ -74,9 +75,9 @@ pub printed-answer : (l : List ℕ) → readAnswer (answerText l) .ok ≡ true
 unfolding answerText answerOf valuesText refusedLine
 printed-answer l = by (eqb (refusalOf l) 0) refl
   where
-    by : (b : Bool) → eqb (refusalOf l) 0 ≡ b → readAnswer (cond b (answerOf l) (refusedText (refusalOf l))) .ok ≡ true
+    by : (b : Bool) → eqb (refusalOf l) 0 ≡ b → readAnswer (cond b (answerOf l) (refusedAt (refusalOf l) (faultPlace l))) .ok ≡ true
     by true e = answer-ok (lineOf l) (line-formed l (eqb-true (refusalOf l) 0 e))
-    by false e = rw (refusal-read (refusalOf l) (eqb-false (refusalOf l) 0 e))
+    by false e = rw (refusal-read (refusalOf l) (faultPlace l) (eqb-false (refusalOf l) 0 e))
 
 -- ---- all lines
 
@@ -96,13 +97,21 @@ refused-unbroken n = by (eqb n 0)
     by true = refl
     by false = decimal-without 10 (lit< tt) (digits (places n) n) (digits-decimal (places n) n)
 
+place-unbroken : (p : ℕ) → without 10 (placeText p) ≡ true
+unfolding placeText
+place-unbroken p = by (eqb p 0)
+  where
+    by : (b : Bool) → without 10 (cond b [] (9 ∷ digits (places p) p)) ≡ true
+    by true = refl
+    by false = decimal-without 10 (lit< tt) (digits (places p) p) (digits-decimal (places p) p)
+
 answer-unbroken : (l : List ℕ) → without 10 (answerText l) ≡ true
 unfolding answerText answerOf valuesText
 answer-unbroken l = by (eqb (refusalOf l) 0)
   where
-    by : (b : Bool) → without 10 (cond b (answerOf l) (refusedText (refusalOf l))) ≡ true
+    by : (b : Bool) → without 10 (cond b (answerOf l) (refusedAt (refusalOf l) (faultPlace l))) ≡ true
     by true = let a = lineOf l in every-both _ (textOf (a .first)) (secondText (a .second)) (text-without 10 (lit< tt) (a .first)) (second-unbroken (a .second))
-    by false = refused-unbroken (refusalOf l)
+    by false = every-both _ (refusedText (refusalOf l)) (placeText (faultPlace l)) (refused-unbroken (refusalOf l)) (place-unbroken (faultPlace l))
 
 -- a text without a newline, and a newline, are the first line
 line-first : (t rest : List ℕ) → without 10 t ≡ true → lines ((t ++ (10 ∷ [])) ++ rest) ≡ t ∷ lines rest

@@ -10,6 +10,7 @@ use lib.ListN.{getD}
 use Rattle.calls.specs.declared.Builtin.{Builtin}
 use Rattle.calls.specs.declared.Builtin.the-variants.{All, Any, Select, Abs, Sign, CountLeadingZeros, CountOneBits, CountTrailingZeros, Min, Max, Clamp, Saturate, Step, Cross, Dot, Transpose, Frexp, Ldexp, Bitcast, Pack4x8snorm, Pack4x8unorm, Pack4xI8, Pack4xI8Clamp, Pack4xU8, Pack4xU8Clamp, Pack2x16snorm, Pack2x16unorm, Pack2x16float, Unpack4x8snorm, Unpack4x8unorm, Unpack4xI8, Unpack4xU8, Unpack2x16snorm, Unpack2x16unorm, Unpack2x16float, Unknown}
 use Rattle.calls.specs.Table.{builtins, builtinAt}
+use Rattle.calls.proofs.Shaped.{numbered, each}
 use Rattle.values.proofs.Bools.{both}
 use Rattle.buffers.specs.Text.{sameBytes, firstSpelled}
 use Rattle.buffers.proofs.Lookup as lookup
@@ -58,6 +59,11 @@ guess-named Unpack2x16unorm = refl
 guess-named Unpack2x16float = refl
 guess-named Unknown = refl
 
+-- what one computed test finds of every number holds of every builtin
+pub each-builtin : (f : Builtin → Bool) → numbered (λ n b. f b) 0 (Unknown ∷ builtins) ≡ true → (b : Builtin) → f b ≡ true
+each-builtin f t b =
+    rw (guess-named b) at (each (λ n w. f w) (λ n. both (f Unknown) (numbered (λ m w. f w) 1 builtins) t .0) t (place (slot (nameOf b))))
+
 module _ {A : Type 0} (p : A → Bool) where
   every : List A → Bool
   every [] = true
@@ -78,7 +84,7 @@ named-alike : (a b : Builtin) → nameOf a ≡ nameOf b → a ≡ b
 named-alike a b e = sym (guess-named a) ∙ ap guess e ∙ guess-named b
 
 -- each builtin is found by its name
-found-named : (b : Builtin) → builtinOf (nameOf b) ≡ b
+pub found-named : (b : Builtin) → builtinOf (nameOf b) ≡ b
 unfolding every builtinAt builtinOf firstSpelled sameBytes
 found-named b =
     named-alike (builtinOf (nameOf b)) b

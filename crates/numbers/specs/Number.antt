@@ -13,9 +13,9 @@ use Rattle.diffs.specs.declared.Place.{Place}
 abbrev pub refusalOrCount : ℕ → ℕ → ℕ
 refusalOrCount refusal n = refusal * 2 ^ 32 + n
 
--- of a line, the length of its answer
+-- of a line, the length of its answer, or the place of its fault: one of the two is 0
 abbrev pub lineNumber : LineAnswer → ℕ
-lineNumber a = refusalOrCount (a .refusal) (a .len)
+lineNumber a = refusalOrCount (a .refusal) (a .len + a .place)
 
 -- of a value's text, the place of its fault
 abbrev pub readNumber : ReadInto → ℕ

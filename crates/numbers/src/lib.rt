@@ -7,7 +7,7 @@ use reading::ReadInto;
 use sorting::Sorted;
 use writing::Written;
 ghost use mathlib.Core.Path.{_≡_};
-ghost use Prim.Native.Nat.{_<_, _≤_};
+ghost use Prim.Native.Nat.{_+_, _<_, _≤_};
 ghost use Rattle.numbers.specs.Number.{refusalOrCount, lineNumber, readNumber, writtenNumber, sortNumber, diffNumber, sideNumber, placeNumber};
 
 fn refusal_or_count(refusal: u8, n: usize) -> u64
@@ -18,10 +18,10 @@ fn refusal_or_count(refusal: u8, n: usize) -> u64
 }
 
 pub fn line_number(a: LineAnswer) -> u64
-    requires { ⌜ a .len < 4294967296 ⌝ }
+    requires { ⌜ a .len + a .place < 4294967296 ⌝ }
     ensures { λ r. ⌜ r ≡ lineNumber a ⌝ }
 {
-    refusal_or_count(a.refusal, a.len)
+    refusal_or_count(a.refusal, a.len + a.place)
 }
 
 pub fn read_number(a: ReadInto) -> u64

@@ -1,4 +1,4 @@
--- Decimal digits are written from the last; a refusal's text by its two cases. Assumes nothing.
+-- Decimal digits are written from the last; a refusal's text and a place's by their two cases. Assumes nothing.
 use Prim.Native.Nat.{ℕ, zero, suc, _+_, _-_, _/_, _%_, _≤_, _<_}
 use mathlib.Core.List.{List, [], _∷_, _++_, append-assoc}
 use mathlib.Core.Bool.{Bool, true, false, cond}
@@ -10,7 +10,7 @@ use lib.ListN.{length, take, drop, set, length-append}
 use lib.Seq.{append-snoc, drop-cons, lt-length-set, getD-set-same, drop-set-lt, take-set-le}
 use borrow.Author.Tests.{eq-eqb, ne-eqb}
 use Rattle.buffers.specs.Memory.{put}
-use Rattle.printing.specs.Decimal.{places, digits, refusedText}
+use Rattle.printing.specs.Decimal.{places, digits, refusedText, placeText, refusedAt}
 
 pub length-digits : (n v : ℕ) → length (digits n v) ≡ n
 unfolding digits
@@ -62,3 +62,29 @@ refused-le n = by (eqb n 0)
     by : (b : Bool) → length (cond b [] (114 ∷ 101 ∷ 102 ∷ 117 ∷ 115 ∷ 101 ∷ 100 ∷ 9 ∷ digits (places n) n)) ≤ 11
     by true = omega arith
     by false = omega (arith, length-digits (places n) n, places-le n)
+
+-- ---- a place
+
+module _ (p : ℕ) where
+  pub placed-none : p ≡ 0 → placeText p ≡ []
+  unfolding placeText
+  placed-none e = rw (eq-eqb p 0 e)
+
+  pub placed-some : (p ≡ 0 → ⊥) → placeText p ≡ (9 ∷ []) ++ digits (places p) p
+  unfolding placeText
+  placed-some h = rw (ne-eqb p 0 h)
+
+  pub length-placed : (p ≡ 0 → ⊥) → length (placeText p) ≡ 1 + places p
+  length-placed h = ap length (placed-some h) ∙ omega (arith, length-digits (places p) p)
+
+-- a tab and at most three digits
+pub placed-le : (p : ℕ) → length (placeText p) ≤ 4
+unfolding placeText
+placed-le p = by (eqb p 0)
+  where
+    by : (b : Bool) → length (cond b [] (9 ∷ digits (places p) p)) ≤ 4
+    by true = omega arith
+    by false = omega (arith, length-digits (places p) p, places-le p)
+
+pub refused-at-le : (n p : ℕ) → length (refusedAt n p) ≤ 15
+refused-at-le n p = omega (arith, length-append (refusedText n) (placeText p), refused-le n, placed-le p)

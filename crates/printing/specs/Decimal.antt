@@ -1,4 +1,4 @@
--- Numbers in decimal digits, and what a refusal prints: 01, "Lines". Definitions only.
+-- Numbers in decimal digits, and what a refusal prints: 01, "Lines", and 02, Q-2. Definitions only.
 use Prim.Native.Nat.{ℕ, zero, suc, _+_, _/_, _%_}
 use mathlib.Core.Bool.{cond}
 use mathlib.Core.List.{List, [], _∷_, _++_}
@@ -20,3 +20,10 @@ decimal v = digits (places v) v
 -- "A refusal prints `refused`, tab, number." Nothing where there is none.
 unfoldable pub refusedText : ℕ → List ℕ
 refusedText n = cond (eqb n 0) [] (bytes "refused\t" ++ decimal n)
+
+-- 02, Q-2: "A line so refused prints the place as a third field." Nothing where there is none.
+unfoldable pub placeText : ℕ → List ℕ
+placeText p = cond (eqb p 0) [] (bytes "\t" ++ decimal p)
+
+abbrev pub refusedAt : ℕ → ℕ → List ℕ
+refusedAt n p = refusedText n ++ placeText p

@@ -4,7 +4,7 @@ ghost use mathlib.Core.List.{[], _∷_};
 ghost use Prim.Native.Nat.{_+_, _<_, _≤_};
 ghost use lib.ListN.{length};
 ghost use Rattle.buffers.specs.Memory.{put};
-ghost use Rattle.printing.specs.Decimal.{digits, places, refusedText};
+ghost use Rattle.printing.specs.Decimal.{digits, places, refusedText, placeText, refusedAt};
 
 fn wide(x: u8) -> usize
     ensures { λ r. ⌜ r ≡ x ⌝ }
@@ -67,4 +67,26 @@ pub fn put_refusal(out: &mut [u8], at: usize, refusal: u8) -> usize
     let n = places_of(v);
     let e = buffers::put_bytes(out, at, b"refused\t");
     put_digits(out, e, n, v)
+}
+
+// Tab and the place of a fault in decimal digits, nothing for 0; answers the next place.
+pub fn put_place(out: &mut [u8], at: usize, place: usize) -> usize
+    requires { ⌜ at + length (placeText place) ≤ length (now out) ⌝ }
+    ensures { λ r. ⌜ (r ≡ at + length (placeText place)) × (now (out .exit) ≡ put (now (out .entry)) at (placeText place)) ⌝ }
+{
+    if place == 0 {
+        return at;
+    }
+    let n = places_of(place);
+    let e = put_byte(out, at, 9);
+    put_digits(out, e, n, place)
+}
+
+// A refusal and its place, one after the other; answers the next place.
+pub fn put_refused(out: &mut [u8], at: usize, refusal: u8, place: usize) -> usize
+    requires { ⌜ at + length (refusedAt refusal place) ≤ length (now out) ⌝ }
+    ensures { λ r. ⌜ (r ≡ at + length (refusedAt refusal place)) × (now (out .exit) ≡ put (now (out .entry)) at (refusedAt refusal place)) ⌝ }
+{
+    let e = put_refusal(out, at, refusal);
+    put_place(out, e, place)
 }

@@ -9,7 +9,7 @@ ghost use Rattle.buffers.specs.Text.{placeOf};
 ghost use Rattle.buffers.specs.Memory.{put};
 ghost use Rattle.words.specs.Words.{valueAt, wordsOf};
 ghost use Rattle.spelling.specs.Hex.{DigitTable};
-ghost use Rattle.spelling.specs.Read.{faultNumber, readValue};
+ghost use Rattle.spelling.specs.Read.{readValue};
 ghost use Rattle.reading.specs.Into.{readIn, wordsIn};
 ghost use Rattle.reading.specs.Program.{ends};
 
@@ -108,17 +108,6 @@ pub struct ReadInto {
     pub place: usize,
 }
 
-fn fault_number(f: Fault) -> u8
-    ensures { λ r. ⌜ r ≡ faultNumber f ⌝ }
-{
-    match f {
-        Fault::Nothing => 0,
-        Fault::TypeSpelling => 9,
-        Fault::Lanes => 10,
-        Fault::Digit => 11,
-    }
-}
-
 // Reads a value's text into its words, at the start of the lent words; a refusal leaves them as they are.
 pub fn read_into(text: &[u8], out: &mut [u64]) -> ReadInto
     ensures { λ r. ⌜ (r ≡ readIn (length (now (out .entry))) (now (text .entry)))
@@ -127,7 +116,7 @@ pub fn read_into(text: &[u8], out: &mut [u64]) -> ReadInto
     let a = read_value(text);
     let f = a.fault;
     let v = a.value;
-    let refusal = fault_number(f);
+    let refusal = faults::fault_number(f);
     if refusal != 0 {
         return ReadInto {
             refusal: refusal,

@@ -3,12 +3,12 @@ use Prim.Native.Nat.{ℕ}
 use mathlib.Core.Bool.{Bool, cond}
 use mathlib.Core.List.{List, [], _∷_, _++_}
 use lib.Dec.{eqb}
-use Rattle.printing.specs.Decimal.{refusedText}
-use Rattle.lines.specs.Line.{refusalOf, answerOf}
+use Rattle.printing.specs.Decimal.{refusedAt}
+use Rattle.lines.specs.Line.{refusalOf, faultPlace, answerOf}
 use Rattle.cutting.specs.Lines.{lines, afterNewline}
 
 unfoldable pub answerText : List ℕ → List ℕ
-answerText l = cond (eqb (refusalOf l) 0) (answerOf l) (refusedText (refusalOf l))
+answerText l = cond (eqb (refusalOf l) 0) (answerOf l) (refusedAt (refusalOf l) (faultPlace l))
 
 -- "prints one line for each"
 unfoldable pub answerLine : List ℕ → List ℕ

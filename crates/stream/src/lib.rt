@@ -55,7 +55,7 @@ fn put_line(line: &[u8], out: &mut [u8], at: usize) -> usize
     ensures { λ r. ⌜ (r ≡ at + length (answerLine (now (line .entry)))) × (now (out .exit) ≡ put (now (out .entry)) at (answerLine (now (line .entry)))) ⌝ }
 {
     let a = line_at(line, out, at);
-    let e = printing::put_refusal(out, at + a.len, a.refusal);
+    let e = printing::put_refused(out, at + a.len, a.refusal, a.place);
     printing::put_byte(out, e, 10)
 }
 

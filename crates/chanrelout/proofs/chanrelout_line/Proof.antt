@@ -1,12 +1,12 @@
--- What the fold ensures of its answer; no answer's length reaches 2^32. Assumes nothing.
+-- What the fold ensures of its answer; no answer's length and no fault's place reach 2^32. Assumes nothing.
 use mathlib.Core.Path.{ap, _∙_}
 use native.Mathlib.Omega.{arith}
 use lib.ListN.{length}
 use borrow.Author.Needs.{needs}
 use Rattle.answers.specs.declared.LineAnswer.{LineAnswer}
-use Rattle.answers.specs.Answers.{answeredIn}
 use Rattle.answers.proofs.Written.{spelled-most}
-use Rattle.lines.specs.Line.{lineOf, lineAnswer}
+use Rattle.lines.specs.Line.{lineOf, writtenIn, lineAnswer}
+use Rattle.lines.proofs.Written.{place-most}
 use Rattle.numbers.specs.Number.{lineNumber}
 use Rattle.chanrelout.proofs.chanrelout_line.Statement.{statement}
 use Rattle.chanrelout.proofs.chanrelout_line.Tie as tie
@@ -15,10 +15,11 @@ fold-line-requires : tie.Need-fold-line-requires
 fold-line-requires c κs = search needs
 
 line-number-requires : tie.Need-line-number-requires
-unfolding lineAnswer answeredIn
+unfolding lineAnswer writtenIn
 line-number-requires c κs =
     let a = c .before .before .before .before .before .before .args in
-    omega (arith, spelled-most (length (a .out .now)) (lineOf (a .line .now)), ap (λ (x : LineAnswer). x .len) (c .before .before .fold-line .ensures .0))
+    let e = c .before .before .fold-line .ensures .0 in
+    omega (arith, spelled-most (length (a .out .now)) (lineOf (a .line .now)), place-most (a .line .now), ap (λ (x : LineAnswer). x .len) e, ap (λ (x : LineAnswer). x .place) e)
 
 same-length : tie.Need-same-length
 same-length c = search needs

@@ -1,11 +1,12 @@
--- A line that is too long is refused by 7; else the words are those of its call, so that their answer is the line's. Assumes nothing.
+-- A line that is too long is refused by 7; else the words are those of its call, so that their answer is the line's, or its misspelling where that is refused by 3. Assumes nothing.
 use Prim.Native.Nat.{ℕ, _<_, _≤_}
 use mathlib.Core.List.{List}
-use mathlib.Core.Path.{_≡_, ap, sym}
+use mathlib.Core.Path.{_≡_, ap, sym, _∙_}
 use native.Mathlib.Omega.{arith}
 use borrow.Author.Tests.{lt-ltb, le-ltb}
 use lib.ListN.{length, replicate}
 use Rattle.buffers.specs.Memory.{put}
+use Rattle.buffers.proofs.Puts.{put-nil}
 use Rattle.calls.specs.Words as Called
 use Rattle.builtins.specs.declared.Answer.{Answer}
 use Rattle.builtins.specs.Fold.{refused, foldOf}
@@ -13,7 +14,8 @@ use Rattle.builtins.specs.Words as Told
 use Rattle.formed.proofs.AnswerWords.{answer-words}
 use Rattle.answers.specs.Program.{Answers}
 use Rattle.answers.proofs.Written.{refused-so}
-use Rattle.lines.specs.Line.{callOf, lineOf, writtenIn, lineAnswer}
+use Rattle.lines.specs.Line.{callOf, lineOf, writtenIn}
+use Rattle.lines.proofs.Written.{answered-line, misspelled-line}
 use borrow.Author.Needs.{needs}
 use Rattle.lines.proofs.fold_line.Statement.{statement}
 use Rattle.lines.proofs.fold_line.Tie as tie
@@ -32,10 +34,12 @@ answers : (line w o : List ℕ) {r : ℕ} {o′ : List ℕ} → length line ≤ 
 answers line w o h e k er eo = rw (not-long line h, ← e) (answer-words w o k er eo)
 
 returns : tie.Need-returns
-unfolding refused writtenIn lineAnswer
+unfolding refused writtenIn
 returns c =
-    let line = c .before .before .before .args .line .now in
-    refused-so (c .before .before .before .args .out .now) (lineOf line) (ap (λ (a : Answer). a .refusal) (sym (too-long line (omega arith)))) (λ z. omega arith)
+    let a = c .before .before .before .args in
+    let seven : lineOf (a .line .now) .refusal ≡ 7 = ap (λ (x : Answer). x .refusal) (too-long (a .line .now) (omega arith)) in
+    let r = refused-so (a .out .now) (lineOf (a .line .now)) (sym seven) (λ z. omega arith) in
+    (answered-line (length (a .out .now)) (a .line .now) (λ z. omega arith) (r .0), r .1)
 
 slice-aggregate-put-call : tie.Need-slice-aggregate-put-call
 slice-aggregate-put-call c = search needs
@@ -52,6 +56,18 @@ slice-aggregate-fold-2 c = search needs
 fold-requires : tie.Need-fold-requires
 fold-requires c κs = search needs
 
+misspelled-requires : tie.Need-misspelled-requires
+misspelled-requires c κs = search needs
+
+returns-2 : tie.Need-returns-2
+returns-2 c =
+    let a = c .before .before .before .before .before .before .before .before .before .before .before .before .args in
+    let f = c .before .before .before .fold in
+    let w = c .before .before .before .before .before .before .before .put-call in
+    let is = answers (a .line .now) (w .last .0) (replicate 34 0) (omega arith) (w .ensures) (omega arith) (f .ensures .0) (f .ensures .1) .0 in
+    let m = misspelled-line (length (a .out .now)) (a .line .now) (sym is ∙ c .before .if2 .taken) (c .misspelled .ensures) in
+    (m .0, sym (ap (put (a .out .now) 0) (m .1) ∙ put-nil (a .out .now) 0))
+
 slice-aggregate-put-answer : tie.Need-slice-aggregate-put-answer
 slice-aggregate-put-answer c = search needs
 
@@ -61,12 +77,15 @@ put-answer-requires c κs = search needs
 same-length : tie.Need-same-length
 same-length c = search needs
 
-returns-2 : tie.Need-returns-2
-unfolding writtenIn lineAnswer
-returns-2 c =
-    let line = c .before .before .before .before .before .before .before .before .before .before .before .before .before .before .before .args .line .now in
-    let f = c .before .before .before .before .before .before .fold in
-    c .before .before .put-answer .ensures (lineOf line) (answers line (c .before .before .before .before .before .before .before .before .before .before .put-call .last .0) (replicate 34 0) (omega arith) (c .before .before .before .before .before .before .before .before .before .before .put-call .ensures) (omega arith) (f .ensures .0) (f .ensures .1))
+returns-3 : tie.Need-returns-3
+unfolding writtenIn
+returns-3 c =
+    let a = c .before .before .before .before .before .before .before .before .before .before .before .before .before .before .before .before .args in
+    let f = c .before .before .before .before .before .before .before .fold in
+    let w = c .before .before .before .before .before .before .before .before .before .before .before .put-call in
+    let so = answers (a .line .now) (w .last .0) (replicate 34 0) (omega arith) (w .ensures) (omega arith) (f .ensures .0) (f .ensures .1) in
+    let r = c .before .before .put-answer .ensures (lineOf (a .line .now)) so in
+    (answered-line (length (a .out .now)) (a .line .now) (λ z. c .before .before .before .before .before .if2 .left (so .0 ∙ z)) (r .0), r .1)
 
 pub fold-line-spec : {M : Type 1} → statement M
 fold-line-spec =
@@ -78,7 +97,9 @@ fold-line-spec =
     slice-aggregate-fold
     slice-aggregate-fold-2
     fold-requires
+    misspelled-requires
+    returns-2
     slice-aggregate-put-answer
     put-answer-requires
     same-length
-    returns-2)
+    returns-3)

@@ -6,7 +6,7 @@ use lib.ListN.{length}
 use borrow.Author.Needs.{needs}
 use Rattle.buffers.specs.Memory.{put}
 use Rattle.lines.specs.Line.{writtenIn}
-use Rattle.printing.specs.Decimal.{refusedText}
+use Rattle.printing.specs.Decimal.{refusedAt}
 use Rattle.stream.specs.Printed.{answerText, answerLine}
 use Rattle.buffers.proofs.Puts.{then}
 use Rattle.stream.proofs.Answers.{text-of, written-of, fit-of, text-le, length-line}
@@ -16,16 +16,16 @@ use Rattle.stream.proofs.put_line.Tie as tie
 line-at-requires : tie.Need-line-at-requires
 line-at-requires c κs = search needs
 
-add-put-refusal : tie.Need-add-put-refusal
-add-put-refusal c =
+add-put-refused : tie.Need-add-put-refused
+add-put-refused c =
     let a = c .before .before .before .before .before .before .before .before .args in
     let room = length (a .out .now) - a .at in
     let w = c .before .before .before .before .line-at .ensures in
     let f = fit-of room (a .line .now) (w .0) (omega (arith, c .before .before .before .before .before .before .before .before .pre)) in
     omega (arith, f, text-le (a .line .now), c .before .before .before .before .before .before .before .before .pre)
 
-put-refusal-requires : tie.Need-put-refusal-requires
-put-refusal-requires c κs =
+put-refused-requires : tie.Need-put-refused-requires
+put-refused-requires c κs =
     let a = c .before .before .before .before .before .before .before .before .args in
     let room = length (a .out .now) - a .at in
     let w = c .before .before .before .before .line-at .ensures in
@@ -38,7 +38,7 @@ put-byte-requires c κs =
     let room = length (a .out .now) - a .at in
     let w = c .before .before .before .before .before .before .before .before .line-at .ensures in
     let f = fit-of room (a .line .now) (w .0) (omega (arith, c .before .before .before .before .before .before .before .before .before .before .before .before .pre)) in
-    omega (arith, f, text-le (a .line .now), c .before .before .before .before .before .before .before .before .before .before .before .before .pre, c .before .before .before .put-refusal .ensures .0)
+    omega (arith, f, text-le (a .line .now), c .before .before .before .before .before .before .before .before .before .before .before .before .pre, c .before .before .before .put-refused .ensures .0)
 
 same-length : tie.Need-same-length
 same-length c = search needs
@@ -53,12 +53,12 @@ returns c =
     let n = written-of room (a .line .now) (w .0) (omega (arith, c .before .before .before .before .before .before .before .before .before .before .before .before .before .before .before .pre)) in
     let le = text-le (a .line .now) in
     let text = text-of room (a .line .now) (w .0) (omega (arith, c .before .before .before .before .before .before .before .before .before .before .before .before .before .before .before .pre)) in
-    let q = c .before .before .before .before .before .before .put-refusal .ensures in
+    let q = c .before .before .before .before .before .before .put-refused .ensures in
     let b = c .before .before .put-byte .ensures in
     let k = length-line (a .line .now) in (
       omega (arith, b .0, q .0),
       then (a .out .now) (a .at) (answerText (a .line .now)) (10 ∷ []) (omega (arith, le, c .before .before .before .before .before .before .before .before .before .before .before .before .before .before .before .pre))
-          (then (a .out .now) (a .at) (writtenIn room (a .line .now)) (refusedText (c .before .before .before .before .before .before .before .before .before .before .before .line-at .result .refusal)) (omega (arith, le, f, n, c .before .before .before .before .before .before .before .before .before .before .before .before .before .before .before .pre)) (w .1) (ap (λ (i : ℕ). a .at + i) n) (q .1)
+          (then (a .out .now) (a .at) (writtenIn room (a .line .now)) (let r = c .before .before .before .before .before .before .before .before .before .before .before .line-at .result in refusedAt (r .refusal) (r .place)) (omega (arith, le, f, n, c .before .before .before .before .before .before .before .before .before .before .before .before .before .before .before .pre)) (w .1) (ap (λ (i : ℕ). a .at + i) n) (q .1)
           ∙ ap (put (a .out .now) (a .at)) text)
           (q .0 ∙ omega (arith, f)) (b .1),
     )
@@ -68,8 +68,8 @@ put-line-spec =
     tie.close
     (tie.spec
     line-at-requires
-    add-put-refusal
-    put-refusal-requires
+    add-put-refused
+    put-refused-requires
     put-byte-requires
     same-length
     returns)

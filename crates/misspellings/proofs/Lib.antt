@@ -1,0 +1,4 @@
+pub mod Arguments
+pub mod FirstFaulty
+pub mod BeforeFault
+pub mod MostPlaces

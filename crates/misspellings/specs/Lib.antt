@@ -1,0 +1,2 @@
+pub mod Misspellings
+pub mod Laws
