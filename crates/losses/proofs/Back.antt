@@ -54,7 +54,7 @@ module _ (n : ℕ) where
         (units-inj f32 (magnitude f32 (singleOf (halfOf n))) (magnitude f32 n)
         (single-exact (halfOf n) k .1 ∙ sym (eq-of-mul-eq-mul-right (2 ^ 24) (pow-pos 24) (units f32 (magnitude f32 n)) (v * 2 ^ 125) (u ∙ sym (mul-assoc v (2 ^ 125) (2 ^ 24))))))
 
-    back-same : ComesBack n → SameSize
+    pub back-same : ComesBack n → SameSize
     back-same b =
         let v = units f16 becomes in
         ap (λ (x : ℕ). units f32 (magnitude f32 x) * 2 ^ 24) (sym b) ∙ ap (λ (x : ℕ). x * 2 ^ 24) (single-exact (halfOf n) k .1) ∙ mul-assoc v (2 ^ 125) (2 ^ 24)
@@ -68,9 +68,12 @@ module _ (n : ℕ) where
   unfolding lossBetween
   overflowed h i = rw (lt-ltb (magnitude f32 n) (infinity f32) h, le-ltb becomes (infinity f16) (le-of-eq (sym i)))
 
-  pub exact : magnitude f32 n < infinity f32 → becomes < infinity f16 → ComesBack n → lossOf n ≡ Exact
+  pub same-exact : magnitude f32 n < infinity f32 → becomes < infinity f16 → SameSize → lossOf n ≡ Exact
   unfolding lossBetween
-  exact h k b = rw (lt-ltb (magnitude f32 n) (infinity f32) h, lt-ltb becomes (infinity f16) k, eq-eqb (units f32 (magnitude f32 n) * 2 ^ 24) (units f16 becomes * 2 ^ 149) (back-same h k b))
+  same-exact h k u = rw (lt-ltb (magnitude f32 n) (infinity f32) h, lt-ltb becomes (infinity f16) k, eq-eqb (units f32 (magnitude f32 n) * 2 ^ 24) (units f16 becomes * 2 ^ 149) u)
+
+  pub exact : magnitude f32 n < infinity f32 → becomes < infinity f16 → ComesBack n → lossOf n ≡ Exact
+  exact h k b = same-exact h k (back-same h k b)
 
   pub rounded : n < 2 ^ 32 → magnitude f32 n < infinity f32 → becomes < infinity f16 → (ComesBack n → ⊥) → lossOf n ≡ Rounded
   unfolding lossBetween

@@ -1,7 +1,8 @@
 // From an f32's bit pattern to a half's, and what was lost on the way.
 ghost use mathlib.Core.Path.{_≡_};
 ghost use Prim.Native.Nat.{_≤_};
-ghost use Rattle.half.specs.Convert.{halfOf};
+ghost use lib.Dec.{eqb};
+ghost use Rattle.half.specs.Convert.{halfOf, singleOf};
 ghost use Rattle.losses.specs.Losses.{lossNumber, lossOf, toldOf};
 
 // Rounded: to a finite half, zero among them. Overflowed: a finite number became an infinity.
@@ -26,6 +27,13 @@ pub struct Converted {
     pub loss: Loss,
 }
 
+// Whether the f32 of the half h is the f32 again.
+fn comes_back(bits: u32, h: u16) -> bool
+    ensures { λ r. ⌜ r ≡ eqb (singleOf h) bits ⌝ }
+{
+    half::f16_to_f32(h) == bits
+}
+
 // What an f32 lost that became the half h: an infinity or a NaN nothing, and a number that became a finite half nothing where it comes back.
 fn loss_of(bits: u32, h: u16) -> Loss
     requires { ⌜ h ≡ halfOf bits ⌝ }
@@ -37,7 +45,7 @@ fn loss_of(bits: u32, h: u16) -> Loss
     if h % 0x8000 == 0x7c00 {
         return Loss::Overflowed;
     }
-    if half::f16_to_f32(h) == bits {
+    if comes_back(bits, h) {
         return Loss::Exact;
     }
     Loss::Rounded
