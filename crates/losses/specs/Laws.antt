@@ -27,7 +27,7 @@ ExactWhere = (n : ℕ) → n < 2 ^ 32 → isNan f32 n ≡ false → (lossOf n �
 abbrev pub ExactToo : Type 0
 ExactToo = (n : ℕ) → (magnitude f32 n ≡ 0) ⊎ (magnitude f32 n ≡ infinity f32) ⊎ (isNan f32 n ≡ true) → lossOf n ≡ Exact
 
--- "1 rounded to a finite half": the numbers below 65520 that do not come back
+-- "1 rounded to a finite half": the numbers below 65520 in size that do not come back
 abbrev pub RoundedWhere : Type 0
 RoundedWhere = (n : ℕ) → n < 2 ^ 32 → (lossOf n ≡ Rounded) ↔ ((magnitude f32 n < overflowsFrom) × (ComesBack n → ⊥))
 
@@ -35,6 +35,6 @@ RoundedWhere = (n : ℕ) → n < 2 ^ 32 → (lossOf n ≡ Rounded) ↔ ((magnitu
 abbrev pub ZeroRounded : Type 0
 ZeroRounded = (n : ℕ) → n < 2 ^ 32 → (magnitude f32 n ≡ 0 → ⊥) → magnitude f16 (halfOf n) ≡ 0 → lossOf n ≡ Rounded
 
--- "2 a finite value became infinity": the finite numbers from 65520 up
+-- "2 a finite value became infinity": the finite numbers from 65520 in size up
 abbrev pub OverflowedWhere : Type 0
 OverflowedWhere = (n : ℕ) → n < 2 ^ 32 → (lossOf n ≡ Overflowed) ↔ ((magnitude f32 n < infinity f32) × (overflowsFrom ≤ magnitude f32 n))

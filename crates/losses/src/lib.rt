@@ -5,7 +5,7 @@ ghost use lib.Dec.{eqb};
 ghost use Rattle.half.specs.Convert.{halfOf, singleOf};
 ghost use Rattle.losses.specs.Losses.{lossNumber, lossOf, toldOf};
 
-// Rounded: to a finite half, zero among them. Overflowed: a finite number became an infinity.
+// Rounded: to a finite half, which may be a zero. Overflowed: a finite number became an infinity.
 pub enum Loss {
     Exact,
     Rounded,
