@@ -1,5 +1,4 @@
 -- Each row's shape and set, computed. Assumes nothing.
-use mathlib.Core.Path.{refl}
 use borrow.Author.Needs.{needs}
 use Rattle.places.specs.Program.{setOf}
 use Rattle.calls.proofs.table.entry_of.Statement.{statement}
