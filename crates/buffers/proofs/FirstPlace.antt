@@ -41,7 +41,7 @@ module _ (b : ℕ) where
       by true ih = rw (leb·suc-zero (suc i), leb·suc-zero i)
       by false ih = rw (leb·suc-suc (suc i) (placeOf b xs), leb·suc-suc i (placeOf b xs)) ih
 
-  -- the same of what stands from i on
+  -- one byte more from i on: no b among them
   pub place-from : (s : List ℕ) (i n : ℕ) → i + n < length s → leb (suc n) (placeOf b (drop i s)) ≡ leb n (placeOf b (drop i s)) && not (eqb (getD s (i + n) 0) b)
   place-from s i n h = rw (← (getD-drop i s n 0)) (place-more (drop i s) n (omega (arith, length-drop i s)))
 

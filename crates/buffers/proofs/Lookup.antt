@@ -35,7 +35,7 @@ same-more (x ∷ xs) (y ∷ ys) zero h k = and-true (eqb x y)
 same-more (x ∷ xs) (y ∷ ys) (suc n) h k =
     rw (same-more xs ys n (omega arith) (omega arith)) (sym (and-assoc (eqb x y) (sameBytes (take n xs) (take n ys)) (eqb (getD xs n 0) (getD ys n 0))))
 
--- the same of what stands from i on
+-- one byte more from i on
 pub same-more-from : (a b : List ℕ) (i n : ℕ) → i + n < length a → i + n < length b
     → sameBytes (take (suc n) (drop i a)) (take (suc n) (drop i b)) ≡ sameBytes (take n (drop i a)) (take n (drop i b)) && eqb (getD a (i + n) 0) (getD b (i + n) 0)
 same-more-from a b i n h k =

@@ -101,7 +101,7 @@ module _ (b : List ℕ) {at have : ℕ} (h : at ≤ have) where
       rw (take-add have k next, e)
       (drop-append-le at (take have b) (take k (drop have next)) (omega (arith, h, length-take-le have b l)))
 
-  -- the same of bytes that are given
+  -- bytes put behind what is held are held too
   pub held-put : (more : List ℕ) → have + length more ≤ length b → heldOf (put b have more) at (have + length more) ≡ heldOf b at have ++ more
   unfolding put
   held-put more l =

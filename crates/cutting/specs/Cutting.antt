@@ -28,7 +28,7 @@ pieceSize skip last s = cond (ended s) (suc (newlineAt s)) (cond (skip || over s
 unfoldable pub pieceSkip : Bool → List ℕ → Bool
 pieceSkip skip s = not (ended s) && (skip || over s)
 
--- the same as a record
+-- all that is told of the first line of s: where it ends, whether it is due, what is done with and what comes next
 unfoldable pub firstLine : Bool → Bool → List ℕ → FirstLine
 firstLine skip last s = record { end = newlineAt s; due = due skip last s; size = pieceSize skip last s; skip = pieceSkip skip s }
 

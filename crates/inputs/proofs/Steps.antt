@@ -72,7 +72,7 @@ module _ (n : ℕ) (b : List ℕ) (h : Held) where
             let g : false ≡ true = rw e at f in
             absurd (not-both g)
 
--- the same as a caller has it
+-- a step that asks for a read leaves room for one: a line may be held, and no more
 pub room-to-read : {r : Held} (b : List ℕ) (h : Held) → r ≡ stepOf stepLines b h → r .reads ≡ true → r .have ≤ mostBytes
 room-to-read b h e f =
     let g : stepOf stepLines b h .reads ≡ true = ap (λ (q : Held). q .reads) (sym e) ∙ f in

@@ -17,7 +17,7 @@ whole s e = cut s ∙ rw (le-ltb (tabAt s) (length s) (omega arith), take-all (t
 pub cut-first : (s : List ℕ) → tabAt s < length s → fields s ≡ take (tabAt s) s ∷ fields (drop (tabAt s + 1) s)
 cut-first s h = cut s ∙ rw (lt-ltb (tabAt s) (length s) h, add-one)
 
--- the same as the code cuts
+-- the first field and the rest, by the parts that the code takes
 pub cut-at : (t : List ℕ) {n : ℕ} → n ≡ tabAt t → n < length t → fields t ≡ take (n - 0) t ∷ fields (take (length t - (n + 1)) (drop (n + 1) t))
 cut-at t {n} e h =
     let z : n - 0 ≡ tabAt t = omega arith in

@@ -37,7 +37,7 @@ text-in room l h = by (eqb (refusalOf l) 0) refl
         let w = in-refused room l (eqb-false (refusalOf l) 0 e) in
         rw (w .0, w .1, e)
 
--- the same of the record that a line's answer is
+-- a line's answer as the record that fold_line gives: its text, how much of it is written, and how long it is
 module _ (room : ℕ) (l : List ℕ) {r : LineAnswer} (e : r ≡ lineAnswer room l) (h : mostText ≤ room) where
   pub text-of : writtenIn room l ++ refusedAt (r .refusal) (r .place) ≡ answerText l
   unfolding lineAnswer
