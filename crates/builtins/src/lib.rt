@@ -9,6 +9,8 @@ ghost use lib.ListN.{length, take};
 ghost use Rattle.values.specs.Value.{laneCount, kindAt, value};
 ghost use Rattle.buffers.specs.Memory.{put};
 ghost use Rattle.words.specs.Words.{wordsOf};
+ghost use Rattle.calls.specs.Refuse.{refusalOf};
+ghost use Rattle.calls.specs.Words.{callOf};
 ghost use Rattle.builtins.specs.Program.{answerIn, Told};
 ghost use Rattle.builtins.specs.Words.{refusalIn, writtenIn};
 
@@ -23,6 +25,13 @@ pub struct Answer {
 const LAST_VECTOR: u64 = 20;
 
 // ---- calls
+
+// The refusal of a call of words, asked for by a slice of its own: a slice that is handed on as it stands is kept in memory on every way, and read from there.
+fn refusal(w: &[u64]) -> u8
+    ensures { λ r. ⌜ r ≡ refusalOf (callOf (now (w .entry))) ⌝ }
+{
+    judging::refusal_of(&w[0..])
+}
 
 // An answer's second value: most have none.
 fn put_second(out: &mut [u64], p: u64, y: [u32; 4])
@@ -61,15 +70,15 @@ pub fn fold(w: &[u64], out: &mut [u64]) -> u8
         return matrix::fold(w, p, out);
     }
     if p == 0 {
-        return judging::refusal_of(w);
+        return refusal(w);
     }
     if !words::formed_as(w, 3, p) {
-        return judging::refusal_of(w);
+        return refusal(w);
     }
     let i = w[0];
     let a = arms::arm(calls::builtin_at(i), w, p, words::cut_at(w, 3));
     if !a.passes {
-        return judging::refusal_of(w);
+        return refusal(w);
     }
     put_answer(out, a)
 }

@@ -46,7 +46,7 @@ pub fn fold(w: &[u64], p: u64, out: &mut [u64]) -> u8
     ensures { λ r. ⌜ (r ≡ refusalIn (length (now (out .entry))) (now (w .entry)))
         × (now (out .exit) ≡ put (now (out .entry)) 0 (writtenIn (length (now (out .entry))) (now (w .entry)))) ⌝ }
 {
-    let n = judging::refusal_of(w);
+    let n = crate::refusal(w);
     if n != 0 {
         return n;
     }

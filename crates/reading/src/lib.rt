@@ -4,16 +4,29 @@ use spelling::Reading;
 ghost use mathlib.Core.Path.{_≡_};
 ghost use Prim.Native.Nat.{_+_, _≤_, _<_};
 ghost use lib.ListN.{length, take};
-ghost use Rattle.values.specs.Value.{emptyValue};
 ghost use Rattle.buffers.specs.Text.{placeOf};
 ghost use Rattle.buffers.specs.Memory.{put};
 ghost use Rattle.words.specs.Words.{valueAt, wordsOf};
 ghost use Rattle.spelling.specs.Hex.{DigitTable};
 ghost use Rattle.spelling.specs.Read.{readValue};
+ghost use Rattle.typenames.specs.Program.{typeFrom};
 ghost use Rattle.reading.specs.Into.{readIn, wordsIn};
 ghost use Rattle.reading.specs.Program.{ends};
 
 // ---- fields
+
+// The type that t starts with and its first tab, each asked for by a slice of its own: a slice that is handed on as it stands is kept in memory, and read from there.
+fn type_from(t: &[u8]) -> u64
+    ensures { λ r. ⌜ (r ≡ typeFrom (now (t .entry))) × (r < 39) ⌝ }
+{
+    typenames::type_from(&t[0..])
+}
+
+fn find_tab(t: &[u8]) -> usize
+    ensures { λ r. ⌜ (r ≡ placeOf 9 (now (t .entry))) × (r ≤ length (now (t .entry))) ⌝ }
+{
+    buffers::find(&t[0..], b'\t')
+}
 
 // Whether a field ends at e: there, or at a tab.
 fn ends_at(t: &[u8], e: usize) -> bool
@@ -33,7 +46,7 @@ fn value_into(w: &mut [u64], at: usize, table: &[u8; 256], t: &[u8]) -> usize
         × (now (w .exit) ≡ put (now (w .entry)) at (wordsOf (readValue (take (placeOf 9 (now (t .entry))) (now (t .entry))) .value))) ⌝ }
 {
     words::clear(w, at);
-    let p = typenames::type_from(t);
+    let p = type_from(t);
     let s = places::scalar_at(p);
     let n = places::count_at(p);
     let start = spelling::type_len(p);
@@ -60,11 +73,7 @@ pub fn read_field(w: &mut [u64], at: usize, table: &[u8; 256], t: &[u8]) -> usiz
         return 0;
     }
     let len = value_into(w, at, table, t);
-    if len > 0 {
-        len
-    } else {
-        buffers::find(t, b'\t')
-    }
+    if len > 0 { len } else { find_tab(t) }
 }
 
 // ---- values by records

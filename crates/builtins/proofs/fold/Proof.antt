@@ -65,27 +65,27 @@ same-length c = search needs
 returns : tie.Need-returns
 returns c = search needs
 
-refusal-of-requires : tie.Need-refusal-of-requires
-refusal-of-requires c κs = search needs
+refusal-requires : tie.Need-refusal-requires
+refusal-requires c κs = search needs
 
 returns-2 : tie.Need-returns-2
 returns-2 c =
     let a = c .before .before .before .before .before .before .args in
     let e = sym (c .before .before .before .place-at .ensures .0) ∙ c .before .if2 .taken in
     let t = told-refused (a .out .now) (a .w .now) (eqb-false _ 0 (unformed (a .w .now) (no-type (valueAt (a .w .now) 3) e))) in
-    (c .refusal-of .ensures ∙ t .0, t .1)
+    (c .refusal .ensures ∙ t .0, t .1)
 
 formed-as-requires : tie.Need-formed-as-requires
 formed-as-requires c κs = search needs
 
-refusal-of-requires-2 : tie.Need-refusal-of-requires-2
-refusal-of-requires-2 c κs = search needs
+refusal-requires-2 : tie.Need-refusal-requires-2
+refusal-requires-2 c κs = search needs
 
 returns-3 : tie.Need-returns-3
 returns-3 c =
     let a = c .before .before .before .before .before .before .before .before .args in
     let t = told-refused (a .out .now) (a .w .now) (eqb-false _ 0 (unformed (a .w .now) (sym (tested (c .before .before)) ∙ not-true _ (c .before .if3 .taken)))) in
-    (c .refusal-of2 .ensures ∙ t .0, t .1)
+    (c .refusal2 .ensures ∙ t .0, t .1)
 
 shared-slice-read-i : tie.Need-shared-slice-read-i
 shared-slice-read-i c = let h = there (c .before) in search needs
@@ -99,14 +99,14 @@ cut-at-requires c κs = search needs
 arm-requires : tie.Need-arm-requires
 arm-requires c κs = let h = there (c .before .before .before) in (omega arith, first (c .before .before .before))
 
-refusal-of-requires-3 : tie.Need-refusal-of-requires-3
-refusal-of-requires-3 c κs = search needs
+refusal-requires-3 : tie.Need-refusal-requires-3
+refusal-requires-3 c κs = search needs
 
 returns-4 : tie.Need-returns-4
 returns-4 c =
     let a = c .before .before .before .before .before .before .before .before .before .before .before .before .before .before .args in
     let t = told-refused (a .out .now) (a .w .now) (worked-out (c .before .before .before) .refused (c .before .if4 .taken)) in
-    (c .refusal-of3 .ensures ∙ t .0, t .1)
+    (c .refusal3 .ensures ∙ t .0, t .1)
 
 put-answer-requires : tie.Need-put-answer-requires
 put-answer-requires c κs = let h = worked-out (c .before .before .before) .places (c .before .if4 .left) in (h .first, h .second)
@@ -125,16 +125,16 @@ fold-spec =
     fold-requires
     same-length
     returns
-    refusal-of-requires
+    refusal-requires
     returns-2
     formed-as-requires
-    refusal-of-requires-2
+    refusal-requires-2
     returns-3
     shared-slice-read-i
     builtin-at-requires
     cut-at-requires
     arm-requires
-    refusal-of-requires-3
+    refusal-requires-3
     returns-4
     put-answer-requires
     same-length-2

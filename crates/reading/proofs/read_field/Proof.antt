@@ -18,8 +18,8 @@ returns c =
 value-into-requires : tie.Need-value-into-requires
 value-into-requires c κs = search needs
 
-find-requires : tie.Need-find-requires
-find-requires c κs = search needs
+find-tab-requires : tie.Need-find-tab-requires
+find-tab-requires c κs = search needs
 
 same-length-2 : tie.Need-same-length-2
 same-length-2 c = search needs
@@ -41,7 +41,7 @@ read-field-spec =
     same-length
     returns
     value-into-requires
-    find-requires
+    find-tab-requires
     same-length-2
     returns-2
     same-length-3

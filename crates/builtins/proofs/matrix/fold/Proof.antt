@@ -18,7 +18,7 @@ use Rattle.builtins.proofs.matrix.fold.Tie as tie
 
 -- once the refusal is tested
 unrefused : (c : tie.Else1) → refusalOf (callOf (c .before .before .before .before .args .w .now)) ≡ 0
-unrefused c = sym (c .before .refusal-of .ensures) ∙ search needs
+unrefused c = sym (c .before .refusal .ensures) ∙ search needs
 
 -- the first value is then well formed
 first : (c : tie.Else1) → FirstMatrix (c .before .before .before .before .args .w .now) (c .before .before .before .before .args .p)
@@ -39,13 +39,13 @@ first c =
 one : (c : tie.Else1) → OneValue (foldOf (callOf (c .before .before .before .before .args .w .now)))
 one c = let s = c .before .before .before .before in one-value (s .args .w .now) (s .args .p) (first c) (unrefused c)
 
-refusal-of-requires : tie.Need-refusal-of-requires
-refusal-of-requires c κs = search needs
+refusal-requires : tie.Need-refusal-requires
+refusal-requires c κs = search needs
 
 returns : tie.Need-returns
 returns c =
     let a = c .before .before .before .before .args in
-    let e = c .before .refusal-of .ensures in
+    let e = c .before .refusal .ensures in
     let t = told-refused (a .out .now) (a .w .now) (λ z. c .if1 .taken (e ∙ z)) in
     (e ∙ t .0, t .1)
 
@@ -72,7 +72,7 @@ pub fold-spec : {M : Type 1} → statement M
 fold-spec =
     tie.close
     (tie.spec
-    refusal-of-requires
+    refusal-requires
     returns
     returns-2
     put-first-requires
