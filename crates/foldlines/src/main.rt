@@ -25,7 +25,7 @@ fn turn(buf: &mut Space, out: &mut Space, h: Held) -> Held
     let r = stream::step(buf, out, h);
     print(out, r.used);
     if r.reads {
-        return filling::refill(buf, r);
+        return refilling::refill(buf, r);
     }
     r
 }

@@ -1,8 +1,8 @@
 -- The bytes that were read stand behind what is held. Assumes nothing.
 use Rattle.inputs.proofs.Turned.{filled}
 use borrow.Author.Needs.{needs}
-use Rattle.filling.proofs.refill.Statement.{statement}
-use Rattle.filling.proofs.refill.Tie as tie
+use Rattle.refilling.proofs.refill.Statement.{statement}
+use Rattle.refilling.proofs.refill.Tie as tie
 
 read-behind-requires : tie.Need-read-behind-requires
 read-behind-requires c κs = search needs

@@ -2,8 +2,8 @@
 use lib.ListN.{take}
 use lib.Seq.{take-at, length-take-le}
 use borrow.Author.Needs.{needs}
-use Rattle.filling.proofs.read_behind.Statement.{statement}
-use Rattle.filling.proofs.read_behind.Tie as tie
+use Rattle.refilling.proofs.read_behind.Statement.{statement}
+use Rattle.refilling.proofs.read_behind.Tie as tie
 
 sub-read : tie.Need-sub-read
 sub-read c = search needs
