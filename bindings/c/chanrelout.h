@@ -89,18 +89,27 @@ struct chanrelout_call {
     struct chanrelout_value arguments[3];
 };
 
-/* An answer of 34 words. Only frexp has a second value, the exponent; elsewhere its words are 0. */
+/* An answer of 35 words. Only frexp has a second value, the exponent; elsewhere its words are 0. Only pack2x16float
+   loses something: `loss` is a number of enum chanrelout_loss, the larger of its two lanes'; elsewhere 0. */
 struct chanrelout_answer {
     struct chanrelout_value first;
     struct chanrelout_value second;
+    uint64_t loss;
+};
+
+/* What an f32 lost that became a half. */
+enum chanrelout_loss {
+    CHANRELOUT_EXACT = 0,     /* nothing: the half is the same number, or both are an infinity or NaN */
+    CHANRELOUT_ROUNDED = 1,   /* it was rounded to a finite half, which may be a zero */
+    CHANRELOUT_OVERFLOWED = 2 /* a finite number became an infinity */
 };
 
 /* call     the words of a struct chanrelout_call, or some of them from the first on: a value of which not all words
             are there is none, and any other word that is not there is 0.
    call_len how many words. Words past the 54th are not looked at.
-   out      where the answer's 34 words are written. It must not overlap call.
-   out_len  how many words may be written there. Below 34 a call that would be answered gives CHANRELOUT_NO_ROOM.
-   Answers a number of enum chanrelout_refusal. */
+   out      where the answer's 35 words are written. It must not overlap call.
+   out_len  how many words may be written there. Below 35 a call that would be answered gives CHANRELOUT_NO_ROOM.
+   Answers a number of enum chanrelout_refusal, and nothing else: what was lost stands in the answer. */
 
 uint8_t chanrelout_call(const uint64_t *call, size_t call_len, uint64_t *out, size_t out_len);
 
@@ -293,6 +302,19 @@ static inline size_t chanrelout_difference_length(uint64_t place)
 
 uint16_t chanrelout_f32_to_f16(uint32_t bits);
 uint32_t chanrelout_f16_to_f32(uint16_t bits);
+
+/* The half and what was lost, a number that the next two take apart. */
+uint32_t chanrelout_f32_to_f16_told(uint32_t bits);
+
+static inline uint16_t chanrelout_told_half(uint32_t told)
+{
+    return (uint16_t)(told & 0xFFFF);
+}
+
+static inline enum chanrelout_loss chanrelout_told_loss(uint32_t told)
+{
+    return (enum chanrelout_loss)(told >> 16);
+}
 
 #ifdef __cplusplus
 }

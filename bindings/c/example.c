@@ -1,5 +1,5 @@
-/* Packs a colour, unpacks it again, folds a line, reads and writes a value and puts values and lines in order: ./run
-   builds and runs this. */
+/* Packs a colour, unpacks it again, tells what halves lost, folds a line, reads and writes a value and puts values and
+   lines in order: ./run builds and runs this. */
 
 #include "chanrelout.h"
 
@@ -87,7 +87,24 @@ int main(void)
     refusal = chanrelout_fold(&unpack, &unpacked);
     printf("%-16s %d\n", "an i32 unpacked", refusal);
 
-    /* The same call as a line. */
+    /* What becomes a half may lose something: the answer tells it, and so does the conversion. */
+    struct chanrelout_call halves = {.builtin = CHANRELOUT_PACK2X16FLOAT, .count = 1};
+    halves.arguments[0].type = CHANRELOUT_VECTOR(2, CHANRELOUT_F32);
+    const float normal[2] = {0.1f, 70000.0f};
+    for (int i = 0; i < 2; i++)
+        halves.arguments[0].lanes[i] = bits_of(normal[i]);
+    struct chanrelout_answer lossy;
+    if (chanrelout_fold(&halves, &lossy) != CHANRELOUT_ANSWERED)
+        return 1;
+    print_value("halves", &lossy.first, 1);
+    printf("%-16s %" PRIu64 "\n", "lost", lossy.loss);
+    for (int i = 0; i < 2; i++) {
+        uint32_t told = chanrelout_f32_to_f16_told((uint32_t)bits_of(normal[i]));
+        printf("%-16s %04X %d\n", i == 0 ? "half of 0.1" : "half of 70000", chanrelout_told_half(told),
+               chanrelout_told_loss(told));
+    }
+
+    /* A call as a line. */
     const char *line = "frexp\tf32:00000001";
     char out[CHANRELOUT_LONGEST_ANSWER];
     uint64_t answer = chanrelout_line((const uint8_t *)line, strlen(line), (uint8_t *)out, sizeof out);

@@ -1,8 +1,13 @@
 /* The half conversion by outside implementations, held against each other, and against ours where it is linked.
 
    check COUNT: all 65,536 halves to f32; then COUNT f32 patterns to half, spread evenly over all 2^32 (all of them
-   where COUNT is 4294967296), and both sides of every place where rounding turns. Only NaN bits may differ. */
+   where COUNT is 4294967296), and both sides of every place where rounding turns. Only NaN bits may differ.
 
+   What a conversion loses is counted too, by what knows nothing of such numbers: it is exact where the half crate's way
+   back gives the same pattern, or a NaN, and overflows where IEEE 754's flag is raised, by the C compiler's conversion
+   and by the processor's. */
+
+#include <fenv.h>
 #include <inttypes.h>
 #include <stdint.h>
 #include <stdio.h>
@@ -24,6 +29,18 @@ static uint16_t compiler_f32_to_f16(uint32_t bits)
     uint16_t out;
     memcpy(&out, &half, 2);
     return out;
+}
+
+/* Worked out here and now: the compiler knows nothing of flags, and would move a conversion past the reading of one. */
+#define WORKED_OUT(x) __asm__ volatile("" : "+r"(x) : : "memory")
+
+/* Whether the flag was raised since it was read last. */
+static int overflow_raised(void)
+{
+    int raised = fetestexcept(FE_OVERFLOW) != 0;
+    if (raised)
+        feclearexcept(FE_OVERFLOW);
+    return raised;
 }
 
 static uint32_t compiler_f16_to_f32(uint16_t bits)
@@ -59,15 +76,24 @@ static int processor_converts(void)
 {
     return __builtin_cpu_supports("f16c");
 }
+/* Its flag stands in MXCSR alone. */
+static int processor_overflow_raised(void)
+{
+    unsigned state = _mm_getcsr();
+    if (state & _MM_EXCEPT_OVERFLOW)
+        _mm_setcsr(state & ~(unsigned)_MM_EXCEPT_OVERFLOW);
+    return (state & _MM_EXCEPT_OVERFLOW) != 0;
+}
 #else
 /* On Arm the compiler's _Float16 is the processor's instruction. */
 #define PROCESSOR 0
 #endif
 
-/* Ours: a library that defines these two is linked with -DOURS. */
+/* Ours: a library that defines these three is linked with -DOURS. The last tells the loss above the half's 16 bits. */
 #ifdef OURS
 uint16_t chanrelout_f32_to_f16(uint32_t bits);
 uint32_t chanrelout_f16_to_f32(uint16_t bits);
+uint32_t chanrelout_f32_to_f16_told(uint32_t bits);
 #endif
 
 static uint64_t compared, differing;
@@ -90,18 +116,43 @@ static void hold16(const char *who, uint32_t x, uint16_t theirs, uint16_t other)
         printf("f32 %08" PRIX32 ": half crate %04X, %s %04X\n", x, theirs, who, other);
 }
 
+/* What is lost: nothing, a rounding, or the finite number. */
+static uint64_t lost[3];
+
+static void hold_loss(const char *who, uint32_t x, int loss, int other)
+{
+    if (loss != other && differing++ < 20)
+        printf("f32 %08" PRIX32 ": loses %d by the C compiler's flag, %s %d\n", x, loss, who, other);
+}
+
+static int loss_by(int overflow, uint32_t x, uint16_t half)
+{
+    return overflow ? 2 : nan32(x) || crate_f16_to_f32(half) == x ? 0 : 1;
+}
+
 static int processor;
 
 static void narrow(uint32_t x)
 {
     uint16_t half = crate_f32_to_f16(x);
-    hold16("C compiler", x, half, compiler_f32_to_f16(x));
+    uint16_t other = compiler_f32_to_f16(x);
+    WORKED_OUT(other);
+    int loss = loss_by(overflow_raised(), x, half);
+    lost[loss]++;
+    hold16("C compiler", x, half, other);
 #if PROCESSOR
-    if (processor)
-        hold16("processor", x, half, processor_f32_to_f16(x));
+    if (processor) {
+        other = processor_f32_to_f16(x);
+        WORKED_OUT(other);
+        hold_loss("by the processor's", x, loss, loss_by(processor_overflow_raised(), x, half));
+        hold16("processor", x, half, other);
+    }
 #endif
 #ifdef OURS
     hold16("ours", x, half, chanrelout_f32_to_f16(x));
+    uint32_t told = chanrelout_f32_to_f16_told(x);
+    hold16("ours, told", x, half, (uint16_t)told);
+    hold_loss("ours", x, loss, (int)(told >> 16));
 #endif
     compared++;
 }
@@ -164,7 +215,7 @@ int main(int count_of_words, char **words)
         }
     }
 
-    printf("%" PRIu64 " conversions compared, half crate, C compiler%s%s: %" PRIu64 " differ by more than NaN bits\n",
+    printf("%" PRIu64 " conversions compared, half crate, C compiler%s%s: %" PRIu64 " differ by more than NaN bits, or in what they lose\n",
            compared, processor ? ", processor" : "",
 #ifdef OURS
            ", ours",
@@ -172,6 +223,7 @@ int main(int count_of_words, char **words)
            "",
 #endif
            differing);
+    printf("of the f32, %" PRIu64 " lose nothing, %" PRIu64 " are rounded, %" PRIu64 " overflow\n", lost[0], lost[1], lost[2]);
 
     /* From f64 half 1.6.0 leaves out the low 32 bits before it rounds. No line reaches this: told, not judged. */
     uint64_t above_tie = UINT64_C(0x3FF0020000000001);

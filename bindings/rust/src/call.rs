@@ -1,4 +1,4 @@
-use crate::{ffi, value::VALUE_WORDS, Builtin, Refusal, Type, Value};
+use crate::{ffi, value::VALUE_WORDS, Builtin, Loss, Refusal, Type, Value};
 
 const SLOTS: usize = 3;
 const HEAD_WORDS: usize = 3;
@@ -7,8 +7,8 @@ const HEAD_WORDS: usize = 3;
 /// number of its type and 16 lanes.
 pub const CALL_WORDS: usize = HEAD_WORDS + SLOTS * VALUE_WORDS;
 
-/// How many words an answer has: two values.
-pub const ANSWER_WORDS: usize = 2 * VALUE_WORDS;
+/// How many words an answer has: two values and what was lost.
+pub const ANSWER_WORDS: usize = 2 * VALUE_WORDS + 1;
 
 /// The library's own call, on words: bindings/c/chanrelout.h says what stands where. Writes the answer's words to the
 /// start of `out`, or nothing where the call is refused.
@@ -26,13 +26,15 @@ pub struct Call {
     len: usize,
 }
 
-/// What a call gives. Only frexp has a second value, the exponent.
+/// What a call gives. Only frexp has a second value, the exponent, and only pack2x16float loses something.
 #[derive(Clone, Copy, Debug, PartialEq, Eq)]
 pub struct Answer {
     /// The value, of frexp the fraction.
     pub first: Value,
     /// frexp's exponent.
     pub second: Option<Value>,
+    /// What pack2x16float lost in the lane that lost more; of every other builtin [`Loss::Exact`].
+    pub loss: Loss,
 }
 
 impl Call {
@@ -69,10 +71,12 @@ impl Call {
     pub fn fold(&self) -> Result<Answer, Refusal> {
         let mut out = [0; ANSWER_WORDS];
         fold_words(self.words(), &mut out)?;
-        let (first, second) = out.split_at(VALUE_WORDS);
+        let (first, rest) = out.split_at(VALUE_WORDS);
+        let (second, loss) = rest.split_at(VALUE_WORDS);
         Ok(Answer {
             first: Value::of_words(first).expect("an answer's first value has a type"),
             second: Value::of_words(second),
+            loss: Loss::from_number(loss[0]),
         })
     }
 }
@@ -98,22 +102,22 @@ mod tests {
     fn broken_words_are_refused() {
         let call = Call::new(Builtin::Max, &[Value::from([1, 2, 3]), Value::from([3, 2, 1])]);
         let words = call.words();
-        assert_eq!(refused(words, 34), None);
+        assert_eq!(refused(words, ANSWER_WORDS), None);
         assert_eq!(refused(&call.words, 40), None);
-        assert_eq!(refused(words, 33), Some(Refusal::NoRoom));
-        assert_eq!(refused(&[], 34), Some(Refusal::UnknownBuiltin));
+        assert_eq!(refused(words, 34), Some(Refusal::NoRoom));
+        assert_eq!(refused(&[], ANSWER_WORDS), Some(Refusal::UnknownBuiltin));
         for len in 0..words.len() {
             let refusal = match len {
                 0 => Refusal::UnknownBuiltin,
                 1 => Refusal::ArgumentCount,
                 _ => Refusal::BadValue,
             };
-            assert_eq!(refused(&words[..len], 34), Some(refusal), "{len} words");
+            assert_eq!(refused(&words[..len], ANSWER_WORDS), Some(refusal), "{len} words");
         }
         let with = |place: usize, word: u64| {
             let mut words = call.words;
             words[place] = word;
-            refused(&words, 34)
+            refused(&words, ANSWER_WORDS)
         };
         for number in [0, 36, u64::MAX] {
             assert_eq!(with(0, number), Some(Refusal::UnknownBuiltin));
@@ -136,14 +140,28 @@ mod tests {
         let mut out = [7; 40];
         assert_eq!(fold_words(&call.words, &mut out), Ok(()));
         assert_eq!(out[..2], [2, 5]);
-        assert!(out[2..34].iter().all(|&word| word == 0) && out[34..].iter().all(|&word| word == 7));
+        assert!(out[2..35].iter().all(|&word| word == 0) && out[35..].iter().all(|&word| word == 7));
     }
 
     #[test]
     fn a_bitcast_counts_its_type() {
         let answer = Call::bitcast(Type::Scalar(crate::Scalar::U32), Value::from(1.0f32)).fold();
-        assert_eq!(answer, Ok(Answer { first: Value::from(0x3F80_0000u32), second: None }));
+        assert_eq!(answer, Ok(Answer { first: Value::from(0x3F80_0000u32), second: None, loss: Loss::Exact }));
         assert_eq!(fold(Builtin::Bitcast, &[Value::from(1.0f32)]), Err(Refusal::ArgumentCount));
         assert_eq!(fold(Builtin::Bitcast, &[Value::from(1), Value::from(1)]), Err(Refusal::BadValue));
+    }
+
+    #[test]
+    fn halves_tell_what_they_lost() {
+        let lost = |x: f32, y: f32| fold(Builtin::Pack2x16float, &[Value::from([x, y])]).map(|answer| answer.loss);
+        assert_eq!(lost(1.0, f32::INFINITY), Ok(Loss::Exact));
+        assert_eq!(lost(f32::NAN, -0.0), Ok(Loss::Exact));
+        assert_eq!(lost(0.1, 1.0), Ok(Loss::Rounded));
+        assert_eq!(lost(1.0, f32::MIN_POSITIVE), Ok(Loss::Rounded), "a number that becomes a zero");
+        assert_eq!(lost(65520.0, 0.1), Ok(Loss::Overflowed));
+        assert_eq!(lost(0.1, -65520.0), Ok(Loss::Overflowed));
+        assert_eq!(lost(1.0, 65519.99), Ok(Loss::Rounded));
+        let other = fold(Builtin::Pack2x16unorm, &[Value::from([0.1f32, 70000.0])]).map(|answer| answer.loss);
+        assert_eq!(other, Ok(Loss::Exact), "of other builtins nothing is told");
     }
 }

@@ -18,5 +18,6 @@ extern "C" {
     ) -> u64;
     pub fn chanrelout_first_difference(left: *const u8, left_len: usize, right: *const u8, right_len: usize) -> u64;
     pub fn chanrelout_f32_to_f16(bits: u32) -> u16;
+    pub fn chanrelout_f32_to_f16_told(bits: u32) -> u32;
     pub fn chanrelout_f16_to_f32(bits: u16) -> u32;
 }

@@ -31,6 +31,7 @@ mod diff;
 mod ffi;
 mod line;
 mod listing;
+mod loss;
 mod refusal;
 mod value;
 
@@ -39,6 +40,7 @@ pub use call::{fold, fold_words, Answer, Call, ANSWER_WORDS, CALL_WORDS};
 pub use diff::{diff, first_difference, Difference, Differences, Kind};
 pub use line::{fold_line, fold_line_into, LONGEST_ANSWER};
 pub use listing::{sort_listing, sort_listing_into, LONGEST_LISTING, MOST_LINES};
+pub use loss::{f32_to_f16_told, Loss};
 pub use refusal::{InLine, Refusal};
 pub use value::{BadValue, Fault, Misspelled, Scalar, Size, Type, Value, Width};
 

@@ -21,7 +21,8 @@ use Rattle.calls.specs.declared.Builtin.the-variants.{All, Any, Select, Abs, Si
 use Rattle.packing.specs.declared.Coding8.the-variants as Of8
 use Rattle.packing.specs.declared.Coding16.the-variants as Of16
 use Rattle.packing.specs.Lanes.{fillingFrom}
-use Rattle.packing.specs.Program.{code8Of, lane8Of, code16Of, lane16Of}
+use Rattle.losses.specs.Losses.{largest}
+use Rattle.packing.specs.Program.{code8Of, lane8Of, code16Of, loss16Of, lane16Of}
 use Rattle.arms.specs.declared.Outcome.{Outcome}
 use Rattle.moves.specs.Moves.{selectLane}
 use Rattle.moves.specs.Program.{recast}
@@ -44,13 +45,17 @@ isHalf F16 = true
 -- ---- what an arm works out, `ok` where the call passes its test
 
 abbrev pub givenTwo : Bool → ℕ → List ℕ → ℕ → List ℕ → Outcome
-givenTwo ok p x q y = record { passes = ok; first = p; lanes = x; second = q; exponents = y }
+givenTwo ok p x q y = record { passes = ok; first = p; lanes = x; second = q; exponents = y; loss = 0 }
 
 abbrev pub given : Bool → ℕ → List ℕ → Outcome
 given ok p x = givenTwo ok p x 0 (0 ∷ 0 ∷ 0 ∷ 0 ∷ [])
 
 abbrev pub givenOne : Bool → ℕ → ℕ → Outcome
 givenOne ok p x = given ok p (x ∷ 0 ∷ 0 ∷ 0 ∷ [])
+
+-- a word, and what was lost
+abbrev pub givenWord : Bool → ℕ → ℕ → Outcome
+givenWord ok x loss = record { passes = ok; first = 3; lanes = x ∷ 0 ∷ 0 ∷ 0 ∷ []; second = 0; exponents = 0 ∷ 0 ∷ 0 ∷ 0 ∷ []; loss = loss }
 
 abbrev pub crossFour : List ℕ → List ℕ → List ℕ
 crossFour x y =
@@ -90,7 +95,7 @@ outcome Pack4xU8 ok t p x b c = givenOne ok 3 (joined 8 (four (code8Of Of8.Unsig
 outcome Pack4xU8Clamp ok t p x b c = givenOne ok 3 (joined 8 (four (code8Of Of8.Unsigned) x))
 outcome Pack2x16snorm ok t p x b c = givenOne ok 3 (joined 16 (take 2 (four (code16Of Of16.Snorm) x)))
 outcome Pack2x16unorm ok t p x b c = givenOne ok 3 (joined 16 (take 2 (four (code16Of Of16.Unorm) x)))
-outcome Pack2x16float ok t p x b c = givenOne ok 3 (joined 16 (take 2 (four (code16Of Of16.Float) x)))
+outcome Pack2x16float ok t p x b c = givenWord ok (joined 16 (take 2 (four (code16Of Of16.Float) x))) (largest (take 2 (four (loss16Of Of16.Float) x)))
 outcome Unpack4x8snorm ok t p x b c = given ok 19 (map (lane8Of Of8.Snorm) (parts 8 4 (getD x 0 0)))
 outcome Unpack4x8unorm ok t p x b c = given ok 19 (map (lane8Of Of8.Unorm) (parts 8 4 (getD x 0 0)))
 outcome Unpack4xI8 ok t p x b c = given ok 17 (map (lane8Of Of8.Signed) (parts 8 4 (getD x 0 0)))

@@ -19,7 +19,7 @@ ghost use lib.ListN.{length, getD};
 ghost use Rattle.words.specs.Words.{valueAt};
 ghost use Rattle.calls.specs.Table.{takes};
 ghost use Rattle.calls.specs.Program.{shapeOf, typesOf, judgedIn, First};
-ghost use Rattle.arms.specs.Program.{given, givenOne, givenTwo, outcome};
+ghost use Rattle.arms.specs.Program.{given, givenOne, givenTwo, givenWord, outcome};
 
 // Places of types that arms answer with.
 const BOOL: u64 = 1;
@@ -35,13 +35,14 @@ const VEC4_U32: u64 = 18;
 const VEC4_F32: u64 = 19;
 
 // What the arm of a builtin works out of a call whose first value is a scalar or a vector: whether the call passes, and two values, each by the place of its type and four
-// lanes. Only frexp has a second one, its exponents.
+// lanes. Only frexp has a second one, its exponents, and only pack2x16float loses something.
 pub struct Outcome {
     pub passes: bool,
     pub first: u64,
     pub lanes: [u32; 4],
     pub second: u64,
     pub exponents: [u32; 4],
+    pub loss: u8,
 }
 
 fn given(ok: bool, p: u64, x: [u32; 4]) -> Outcome
@@ -53,6 +54,7 @@ fn given(ok: bool, p: u64, x: [u32; 4]) -> Outcome
         lanes: x,
         second: 0,
         exponents: [0; 4],
+        loss: 0,
     }
 }
 
@@ -72,6 +74,21 @@ fn given_two(ok: bool, p: u64, x: [u32; 4], q: u64, y: [u32; 4]) -> Outcome
         lanes: x,
         second: q,
         exponents: y,
+        loss: 0,
+    }
+}
+
+// A word, and what was lost.
+fn given_word(ok: bool, x: u32, loss: u8) -> Outcome
+    ensures { λ r. ⌜ r ≡ givenWord ok x loss ⌝ }
+{
+    Outcome {
+        passes: ok,
+        first: U32,
+        lanes: [x, 0, 0, 0],
+        second: 0,
+        exponents: [0; 4],
+        loss: loss,
     }
 }
 

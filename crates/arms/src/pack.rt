@@ -4,6 +4,7 @@ use crate::U32;
 use crate::VEC2_F32;
 use crate::given;
 use crate::given_one;
+use crate::given_word;
 use calls::table::Shape;
 use judging::tests::one_value;
 use packing::Coding8;
@@ -14,9 +15,10 @@ ghost use lib.Dec.{eqb};
 ghost use lib.ListN.{take, getD};
 ghost use Rattle.values.specs.Program.{four};
 ghost use Rattle.numeric.specs.Parts.{parts, joined};
-ghost use Rattle.packing.specs.Program.{code8Of, lane8Of, code16Of, lane16Of};
+ghost use Rattle.losses.specs.Losses.{largest};
+ghost use Rattle.packing.specs.Program.{code8Of, lane8Of, code16Of, loss16Of, lane16Of};
 ghost use Rattle.calls.specs.Program.{judgedIn, First};
-ghost use Rattle.arms.specs.Program.{given, givenOne, fillFour};
+ghost use Rattle.arms.specs.Program.{given, givenOne, givenWord, fillFour};
 
 pub fn pack8(w: &[u64], n: u64, p: u64, set: u64, t: Coding8, x: [u32; 4]) -> Outcome
     requires { ⌜ First (now w) p ⌝ }
@@ -27,9 +29,10 @@ pub fn pack8(w: &[u64], n: u64, p: u64, set: u64, t: Coding8, x: [u32; 4]) -> Ou
 
 pub fn pack16(w: &[u64], n: u64, p: u64, set: u64, t: Coding16, x: [u32; 4]) -> Outcome
     requires { ⌜ First (now w) p ⌝ }
-    ensures { λ r. ⌜ r ≡ givenOne (eqb (judgedIn Shape.OneValue set n (now (w .entry))) 0) 3 (joined 16 (take 2 (four (code16Of t) x))) ⌝ }
+    ensures { λ r. ⌜ r ≡ givenWord (eqb (judgedIn Shape.OneValue set n (now (w .entry))) 0) (joined 16 (take 2 (four (code16Of t) x))) (largest (take 2 (four (loss16Of t) x))) ⌝ }
 {
-    given_one(one_value(w, n, p, set), U32, packing::word16(t, x))
+    let c = packing::word16(t, x);
+    given_word(one_value(w, n, p, set), c.word, c.loss)
 }
 
 // pack4xI8Clamp: a negative lane fills every lane above it.

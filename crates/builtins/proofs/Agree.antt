@@ -28,7 +28,7 @@ use Rattle.builtins.specs.Fold.{answerBy}
 use Rattle.arms.specs.Program.{cutOf, outcome}
 use Rattle.builtins.specs.Program.{answerIn}
 use Rattle.builtins.proofs.AgreeLanes.{agree1, agree2, agree3, agree-select}
-use Rattle.builtins.proofs.AgreeOthers.{agree-all, agree-any, agree-frexp, agree-pack, agree-fill, agree-unpack, agree-bitcast, agree-cross, agree-dot}
+use Rattle.builtins.proofs.AgreeOthers.{agree-all, agree-any, agree-frexp, agree-pack, agree-halves, agree-fill, agree-unpack, agree-bitcast, agree-cross, agree-dot}
 
 no-matrix : (k : Kind) → isLanes k ≡ true → matrix k ≡ true → ⊥
 no-matrix Empty i m = false≢true m
@@ -79,7 +79,7 @@ module _ (ok : Bool) (n t : ℕ) (a b c : Value) (la : length (a .lanes) ≡ 16)
   agree Pack4xU8Clamp j = agree-pack ok a Four U32 8 (code8Of Of8.Unsigned) la (unary n (kindAt t) a b c (Only (Vec Four U32)) j)
   agree Pack2x16snorm j = agree-pack ok a Two F32 16 (code16Of Of16.Snorm) la (unary n (kindAt t) a b c (Only (Vec Two F32)) j)
   agree Pack2x16unorm j = agree-pack ok a Two F32 16 (code16Of Of16.Unorm) la (unary n (kindAt t) a b c (Only (Vec Two F32)) j)
-  agree Pack2x16float j = agree-pack ok a Two F32 16 (code16Of Of16.Float) la (unary n (kindAt t) a b c (Only (Vec Two F32)) j)
+  agree Pack2x16float j = agree-halves ok a la (unary n (kindAt t) a b c (Only (Vec Two F32)) j)
   agree Unpack4x8snorm j = agree-unpack ok a 8 4 (lane8Of Of8.Snorm) (Vec Four F32) _ (formed1 (Only (One U32)) j) refl
   agree Unpack4x8unorm j = agree-unpack ok a 8 4 (lane8Of Of8.Unorm) (Vec Four F32) _ (formed1 (Only (One U32)) j) refl
   agree Unpack4xI8 j = agree-unpack ok a 8 4 (lane8Of Of8.Signed) (Vec Four I32) _ (formed1 (Only (One U32)) j) refl

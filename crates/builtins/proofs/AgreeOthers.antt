@@ -11,11 +11,11 @@ use lib.Seq.{length-take-le}
 use Rattle.values.specs.declared.Scalar.{Scalar}
 use Rattle.values.specs.declared.Scalar.the-variants.{Boolean, I32, U32, F32}
 use Rattle.values.specs.declared.Size.{Size}
-use Rattle.values.specs.declared.Size.the-variants.{Three}
+use Rattle.values.specs.declared.Size.the-variants.{Two, Three}
 use Rattle.values.specs.declared.Kind.{Kind}
 use Rattle.values.specs.declared.Kind.the-variants.{Empty, One, Vec, Mat}
 use Rattle.values.specs.declared.Value.{Value}
-use Rattle.values.specs.Value.{sizeOf, scalarOf, laneCount, shaped, place, kindAt, lanesOf, lane, value, every, wellFormed, flag}
+use Rattle.values.specs.Value.{sizeOf, scalarOf, laneCount, shaped, place, kindAt, lanesOf, lane, value, emptyValue, every, wellFormed, flag}
 use Rattle.values.specs.Program.{low, four, isLanes}
 use Rattle.values.proofs.Lanes.{few, lanes1, lanes1-as}
 use Rattle.values.proofs.Places.{there}
@@ -28,13 +28,15 @@ use Rattle.builtins.specs.Logical.{allOf, anyOf}
 use Rattle.builtins.specs.Numeric.{crossOf, dotOf}
 use Rattle.builtins.specs.Exponent.{fractionOf, exponentOf}
 use Rattle.builtins.specs.Bitcast.{bitcastOf}
-use Rattle.builtins.specs.Pack.{filled, word, packed, unpacked}
-use Rattle.builtins.specs.Fold.{answered, answeredTwice}
+use Rattle.losses.specs.Losses.{largest, lossNumber, lossOf}
+use Rattle.half.specs.Convert.{halfOf}
+use Rattle.builtins.specs.Pack.{filled, word, packed, unpacked, lossIn}
+use Rattle.builtins.specs.Fold.{answered, answeredTwice, answeredLosing}
 use Rattle.moves.specs.Program.{recast}
-use Rattle.arms.specs.Program.{cutOf, isHalf, given, givenOne, givenTwo, crossFour, fillFour}
+use Rattle.arms.specs.Program.{cutOf, isHalf, given, givenOne, givenTwo, givenWord, crossFour, fillFour}
 use Rattle.builtins.specs.Program.{answerIn}
 use Rattle.builtins.proofs.Casting.{cast-value}
-use Rattle.builtins.proofs.Packed.{value-lanes, packs, uncut}
+use Rattle.builtins.proofs.Packed.{value-lanes, packs, codes, uncut}
 use Rattle.builtins.proofs.Products.{cross-is, dot-is}
 use Rattle.builtins.proofs.AgreeLanes.{by-type, by-scalar-type, held}
 
@@ -53,6 +55,14 @@ module _ (ok : Bool) (a : Value) where
   pub agree-pack : (m : Size) (s : Scalar) (w : ℕ) (f : ℕ → ℕ) → length (a .lanes) ≡ 16 → Passed (Only (Vec m s)) a
       → answerIn (givenOne ok 3 (joined w (take (sizeOf m) (four f (cutOf a))))) ≡ answered (packed w f a)
   agree-pack m s w f la p = by-scalar-type ok U32 _ ∙ ap answered (packs m s w f a la p)
+
+  -- halves, and what they lost
+  pub agree-halves : length (a .lanes) ≡ 16 → Passed (Only (Vec Two F32)) a
+      → answerIn (givenWord ok (joined 16 (take 2 (four halfOf (cutOf a)))) (largest (take 2 (four (λ x. lossNumber (lossOf x)) (cutOf a))))) ≡ answeredLosing (lossIn a) (packed 16 halfOf a)
+  unfolding answeredLosing lossIn kindAt value emptyValue
+  agree-halves la p =
+      rw (← codes Two F32 16 (λ x. lossNumber (lossOf x)) a la p)
+      (ap (λ (v : Value). answeredLosing (largest (take 2 (four (λ x. lossNumber (lossOf x)) (cutOf a)))) v) (packs Two F32 16 halfOf a la p))
 
   fill-is : fillFour (cutOf a) ≡ filled a
   unfolding filled

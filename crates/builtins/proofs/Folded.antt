@@ -1,14 +1,15 @@
 -- What a call gives, from its refusal; and what a caller of words is told of it and finds written. By cases of the refusal and of the room. Assumes nothing.
 use Prim.Native.Nat.{ℕ, zero, suc, _<_, _≤_}
 use mathlib.Core.Bool.{Bool, true, false, cond}
-use mathlib.Core.List.{List, [], _++_}
+use mathlib.Core.List.{List, [], _∷_, _++_}
 use mathlib.Core.Path.{_≡_, refl, ap, sym, _∙_}
 use native.Mathlib.Omega.{arith}
 use borrow.Author.Tests.{ne-eqb, lt-ltb, le-ltb}
 use lib.Dec.{ltb, eqb}
-use lib.ListN.{length}
+use lib.ListN.{length, length-append}
 use Rattle.values.specs.declared.Kind.{Kind}
 use Rattle.values.specs.declared.Value.{Value}
+use Rattle.values.specs.Value.{emptyValue}
 use Rattle.buffers.specs.Memory.{put}
 use Rattle.buffers.proofs.Puts.{put-nil, then}
 use Rattle.words.specs.Words.{wordsOf}
@@ -54,13 +55,24 @@ by-room true xs = refl
 by-room false xs = refl
 
 module _ (a : Answer) (o : List ℕ) where
-  pub told-short : length o < 34 → Told a o 8 o
+  pub told-short : length o < 35 → Told a o 8 o
   told-short h = record { told = sym (rw (lt-ltb _ _ h)); memory = sym (rw (lt-ltb _ _ h) (put-nil o 0)) }
 
-  -- one value after the other
-  pub told-written : {o′ o″ : List ℕ} → 34 ≤ length o → length (a .first .lanes) ≡ 16 → o′ ≡ put o 0 (wordsOf (a .first)) → o″ ≡ put o′ 17 (wordsOf (a .second)) → Told a o 0 o″
-  told-written h l e e′ =
-      record { told = sym (rw (le-ltb _ _ h)); memory = then o 0 (wordsOf (a .first)) (wordsOf (a .second)) (omega arith) e (omega arith) e′ ∙ sym (rw (le-ltb _ _ h)) }
+  -- one value after the other, and the loss
+  pub told-written : {o′ o″ o‴ : List ℕ} → 35 ≤ length o → length (a .first .lanes) ≡ 16 → length (a .second .lanes) ≡ 16
+      → o′ ≡ put o 0 (wordsOf (a .first)) → o″ ≡ put o′ 17 (wordsOf (a .second)) → o‴ ≡ put o″ 34 (a .loss ∷ []) → Told a o 0 o‴
+  told-written {o′} {o″} h l l′ e e′ e″ =
+      let values = wordsOf (a .first) ++ wordsOf (a .second) in
+      let both : o″ ≡ put o 0 values = then o 0 (wordsOf (a .first)) (wordsOf (a .second)) (omega arith) e (omega arith) e′ in
+      let sizes : length values ≡ 34 = length-append (wordsOf (a .first)) (wordsOf (a .second)) ∙ omega (arith, l, l′) in
+      record { told = sym (rw (le-ltb _ _ h)); memory = then o 0 values (a .loss ∷ []) (omega (arith, sizes)) both (omega (arith, sizes)) e″ ∙ sym (rw (le-ltb _ _ h)) }
+
+  -- of one value and no loss
+  pub told-one : {o′ o″ o‴ : List ℕ} → 35 ≤ length o → length (a .first .lanes) ≡ 16 → a .second ≡ emptyValue → a .loss ≡ 0
+      → o′ ≡ put o 0 (wordsOf (a .first)) → o″ ≡ put o′ 17 (wordsOf emptyValue) → o‴ ≡ put o″ 34 (0 ∷ []) → Told a o 0 o‴
+  unfolding emptyValue
+  told-one {o′} {o″} h l none nothing e e′ e″ =
+      told-written h l (rw none) e (e′ ∙ ap (λ (v : Value). put o′ 17 (wordsOf v)) (sym none)) (e″ ∙ ap (λ (n : ℕ). put o″ 34 (n ∷ [])) (sym nothing))
 
 -- of a call that is refused
 pub told-refused : (o : List ℕ) (w : List ℕ) → (refusalOf (callOf w) ≡ 0 → ⊥)
@@ -76,5 +88,5 @@ pub told-answer : (o : List ℕ) (w : List ℕ) {a : Answer} {r : ℕ} {o′ : L
     → (r ≡ refusalIn (length o) w) × (o′ ≡ put o 0 (writtenIn (length o) w))
 unfolding refusalIn writtenIn answerOf
 told-answer o w {a} e z t =
-    let short = ltb (length o) 34 in
-    (t .told ∙ sym (rw (← e, z)), t .memory ∙ sym (rw (← e, z) (ap (put o 0) (by-room short (wordsOf (a .first) ++ wordsOf (a .second))))))
+    let short = ltb (length o) 35 in
+    (t .told ∙ sym (rw (← e, z)), t .memory ∙ sym (rw (← e, z) (ap (put o 0) (by-room short (wordsOf (a .first) ++ wordsOf (a .second) ++ a .loss ∷ [])))))

@@ -42,15 +42,16 @@ chosen : (d : Bool) (xs ys : List ℕ) (u v : Value) → xs ≡ wordsOf u → ys
 chosen true xs ys u v e g = e
 chosen false xs ys u v e g = g
 
--- one value, in 16 lanes
+-- one value, in 16 lanes, and no loss
 pub record OneValue (a : Answer) : Type 0 where
   pub refusal : a .refusal ≡ 0
   pub second : a .second ≡ emptyValue
   pub sixteen : length (a .first .lanes) ≡ 16
+  pub loss : a .loss ≡ 0
 
 answers-one : (v : Value) → length (v .lanes) ≡ 16 → OneValue (answered v)
 unfolding answered
-answers-one v l = record { refusal = refl; second = refl; sixteen = l }
+answers-one v l = record { refusal = refl; second = refl; sixteen = l; loss = refl }
 
 module _ (w : List ℕ) (p : ℕ) (f : FirstMatrix w p) (z : refusalOf (callOf w) ≡ 0) where
   -- ---- select

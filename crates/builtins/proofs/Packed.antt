@@ -37,7 +37,7 @@ module _ (n : Size) (s : Scalar) (w : ℕ) (f : ℕ → ℕ) (v : Value) (l : le
   kind-is : v .kind ≡ Vec n s
   kind-is = same (p .alone)
 
-  codes : take (sizeOf n) (four f (cutOf v)) ≡ map f (lanesOf v)
+  pub codes : take (sizeOf n) (four f (cutOf v)) ≡ map f (lanesOf v)
   codes =
       let count = ap laneCount kind-is in
       let used : length (lanesOf v) ≡ laneCount (v .kind) = length-take-le (laneCount (v .kind)) (v .lanes) (omega (arith, few n)) in

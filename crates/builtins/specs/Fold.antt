@@ -22,18 +22,22 @@ use Rattle.exponent.specs.Exponent.{ldexpLane}
 use Rattle.packing.specs.Lanes.{lowByte, extended, plain}
 use Rattle.builtins.specs.Exponent.{fractionOf, exponentOf}
 use Rattle.builtins.specs.Bitcast.{bitcastOf}
-use Rattle.builtins.specs.Pack.{filled, word, packed, unpacked, packedNorms, unpackedNorms}
+use Rattle.builtins.specs.Pack.{filled, word, packed, unpacked, packedNorms, unpackedNorms, lossIn}
 
--- "Each refusal returns its number and the empty value"
+-- "Each refusal returns its number and the empty value"; of losses, "other builtins and refused calls hand up 0"
 unfoldable pub refused : ℕ → Answer
-refused n = record { refusal = n; first = emptyValue; second = emptyValue }
+refused n = record { refusal = n; first = emptyValue; second = emptyValue; loss = 0 }
 
 -- "Only frexp answers a second value; elsewhere it is empty."
 unfoldable pub answered : Value → Answer
-answered v = record { refusal = 0; first = v; second = emptyValue }
+answered v = record { refusal = 0; first = v; second = emptyValue; loss = 0 }
 
 unfoldable pub answeredTwice : Value → Value → Answer
-answeredTwice v w = record { refusal = 0; first = v; second = w }
+answeredTwice v w = record { refusal = 0; first = v; second = w; loss = 0 }
+
+-- "pack2x16float hands up the larger of its two lanes' numbers beside the word"
+unfoldable pub answeredLosing : ℕ → Value → Answer
+answeredLosing n v = record { refusal = 0; first = v; second = emptyValue; loss = n }
 
 -- a call that is not refused
 abbrev pub answerBy : Builtin → Kind → Value → Value → Value → Answer
@@ -64,7 +68,7 @@ answerBy Pack4xU8 t a b c = answered (packed 8 lowByte a)
 answerBy Pack4xU8Clamp t a b c = answered (packed 8 lowByte a)
 answerBy Pack2x16snorm t a b c = answered (packedNorms true 16 a)
 answerBy Pack2x16unorm t a b c = answered (packedNorms false 16 a)
-answerBy Pack2x16float t a b c = answered (packed 16 halfOf a)
+answerBy Pack2x16float t a b c = answeredLosing (lossIn a) (packed 16 halfOf a)
 answerBy Unpack4x8snorm t a b c = answered (unpackedNorms true 8 4 (Vec Four F32) a)
 answerBy Unpack4x8unorm t a b c = answered (unpackedNorms false 8 4 (Vec Four F32) a)
 answerBy Unpack4xI8 t a b c = answered (unpacked 8 4 extended (Vec Four I32) a)

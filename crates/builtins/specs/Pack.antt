@@ -9,6 +9,7 @@ use Rattle.values.specs.declared.Kind.the-variants.{One}
 use Rattle.values.specs.declared.Value.{Value}
 use Rattle.values.specs.Value.{lanesOf, lane, value}
 use Rattle.numeric.specs.Parts.{parts, joined}
+use Rattle.losses.specs.Losses.{lossNumber, lossOf, largest}
 use Rattle.norm.specs.Norm.{packedNorm, unpackedNorm}
 use Rattle.packing.specs.Lanes.{fillingFrom}
 
@@ -38,3 +39,7 @@ packedNorms g w v = packed w (packedNorm g w) v
 
 abbrev pub unpackedNorms : Bool → ℕ → ℕ → Kind → Value → Value
 unpackedNorms g w n k v = unpacked w n (unpackedNorm g w) k v
+
+-- what the lanes lose that become halves
+unfoldable pub lossIn : Value → ℕ
+lossIn v = largest (map (λ x. lossNumber (lossOf x)) (lanesOf v))

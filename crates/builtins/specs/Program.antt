@@ -2,7 +2,7 @@
 use Prim.Native.Nat.{ℕ}
 use mathlib.Core.Bool.{cond}
 use mathlib.Core.Path.{_≡_}
-use mathlib.Core.List.{List, [], _++_}
+use mathlib.Core.List.{List, [], _∷_, _++_}
 use lib.Dec.{ltb}
 use lib.ListN.{length, take}
 use Rattle.values.specs.declared.Value.{Value}
@@ -18,9 +18,9 @@ valueBy p x = value (kindAt p) (take (laneCount (kindAt p)) x)
 
 -- the answer that it stands for
 abbrev pub answerIn : Outcome → Answer
-answerIn o = record { refusal = 0; first = valueBy (o .first) (o .lanes); second = valueBy (o .second) (o .exponents) }
+answerIn o = record { refusal = 0; first = valueBy (o .first) (o .lanes); second = valueBy (o .second) (o .exponents); loss = o .loss }
 
 -- of an answer and memory that is lent for it, what the caller is told and the memory after: the answer is written where there is room
 pub record Told (a : Answer) (before : List ℕ) (r : ℕ) (after : List ℕ) : Type 0 where
-  pub told : r ≡ cond (ltb (length before) 34) 8 0
-  pub memory : after ≡ put before 0 (cond (ltb (length before) 34) [] (wordsOf (a .first) ++ wordsOf (a .second)))
+  pub told : r ≡ cond (ltb (length before) 35) 8 0
+  pub memory : after ≡ put before 0 (cond (ltb (length before) 35) [] (wordsOf (a .first) ++ wordsOf (a .second) ++ a .loss ∷ []))

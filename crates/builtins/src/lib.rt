@@ -4,6 +4,7 @@ mod matrix;
 use arms::Outcome;
 use values::Value;
 ghost use mathlib.Core.Path.{_≡_};
+ghost use mathlib.Core.List.{[], _∷_};
 ghost use Prim.Native.Nat.{_≤_};
 ghost use lib.ListN.{length, take};
 ghost use Rattle.values.specs.Value.{laneCount, kindAt, value};
@@ -14,11 +15,12 @@ ghost use Rattle.calls.specs.Words.{callOf};
 ghost use Rattle.builtins.specs.Program.{answerIn, Told};
 ghost use Rattle.builtins.specs.Words.{refusalIn, writtenIn};
 
-// `refusal` is 01's number, 0 where the call is answered. Only frexp has a second value.
+// `refusal` is 01's number, 0 where the call is answered. Only frexp has a second value, and only pack2x16float a loss, the number of Q-7.
 pub struct Answer {
     pub refusal: u8,
     pub first: Value,
     pub second: Value,
+    pub loss: u8,
 }
 
 // The last place of a scalar or a vector: past it stand the matrices.
@@ -35,7 +37,7 @@ fn refusal(w: &[u64]) -> u8
 
 // An answer's second value: most have none.
 fn put_second(out: &mut [u64], p: u64, y: [u32; 4])
-    requires { ⌜ (34 ≤ length (now out)) × (p ≤ 20) ⌝ }
+    requires { ⌜ (35 ≤ length (now out)) × (p ≤ 20) ⌝ }
     ensures { λ _. ⌜ now (out .exit) ≡ put (now (out .entry)) 17 (wordsOf (value (kindAt p) (take (laneCount (kindAt p)) y))) ⌝ }
 {
     if p == 0 {
@@ -45,18 +47,27 @@ fn put_second(out: &mut [u64], p: u64, y: [u32; 4])
     }
 }
 
-// An answer's two values, where there is room for them.
+// What was lost, behind the two values.
+fn put_loss(out: &mut [u64], loss: u8)
+    requires { ⌜ 35 ≤ length (now out) ⌝ }
+    ensures { λ _. ⌜ now (out .exit) ≡ put (now (out .entry)) 34 (loss ∷ []) ⌝ }
+{
+    out[34] = loss as u64;
+}
+
+// An answer's two values and its loss, where there is room for them.
 fn put_answer(out: &mut [u64], a: Outcome) -> u8
     requires { ⌜ (a .first ≤ 20) × (a .second ≤ 20) ⌝ }
     ensures { λ r. ⌜ Told (answerIn a) (now (out .entry)) r (now (out .exit)) ⌝ }
 {
-    if out.len() < 34 {
+    if out.len() < 35 {
         return 8;
     }
     let x = a.lanes;
     let y = a.exponents;
     words::put_lanes(out, 0, a.first, x);
     put_second(out, a.second, y);
+    put_loss(out, a.loss);
     0
 }
 

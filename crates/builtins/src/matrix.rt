@@ -50,10 +50,11 @@ pub fn fold(w: &[u64], p: u64, out: &mut [u64]) -> u8
     if n != 0 {
         return n;
     }
-    if out.len() < 34 {
+    if out.len() < 35 {
         return 8;
     }
     put_first(w, p, out);
     words::clear(out, 17);
+    crate::put_loss(out, 0);
     0
 }

@@ -3,6 +3,7 @@
 ghost use mathlib.Core.Path.{_≡_};
 ghost use lib.ListN.{length};
 ghost use Rattle.half.specs.Convert.{halfOf, singleOf};
+ghost use Rattle.losses.specs.Losses.{toldOf};
 ghost use Rattle.buffers.specs.Memory.{put};
 ghost use Rattle.lines.specs.Line as text;
 ghost use Rattle.words.specs.Words.{valueAt};
@@ -13,7 +14,7 @@ ghost use Rattle.order.specs.Order as order;
 ghost use Rattle.sorting.specs.Sorting.{sortedOf, indexIn};
 ghost use Rattle.diffs.specs.Diffs.{comparedIn, kindsIn};
 ghost use Rattle.diffs.specs.Places.{firstPlace};
-ghost use Rattle.numbers.specs.Number.{lineNumber, readNumber, writtenNumber, sortNumber, diffNumber, placeNumber};
+ghost use Rattle.numbers.specs.Number.{toldNumber, lineNumber, readNumber, writtenNumber, sortNumber, diffNumber, placeNumber};
 
 // Folds a line of 01 into its answer, without newlines. Answers the refusal's number times 2^32, or the length of what was written.
 #[no_mangle]
@@ -102,6 +103,15 @@ pub extern "C" fn chanrelout_f32_to_f16(bits: u32) -> u16
     ensures { λ r. ⌜ r ≡ halfOf bits ⌝ }
 {
     half::f32_to_f16(bits)
+}
+
+// The half nearest to an f32, both as bits, and what was lost: its number times 2^16, and the half.
+#[no_mangle]
+pub extern "C" fn chanrelout_f32_to_f16_told(bits: u32) -> u32
+    ensures { λ r. ⌜ r ≡ toldNumber (toldOf bits) ⌝ }
+{
+    let c = losses::f32_to_f16_told(bits);
+    numbers::told_number(c)
 }
 
 // The f32 that a half is, both as bits.

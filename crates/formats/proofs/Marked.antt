@@ -20,8 +20,9 @@ use Rattle.builtins.specs.Numeric.{dotOf}
 use Rattle.exponent.specs.Exponent.{fraction, exponent, ldexp}
 use Rattle.norm.specs.Norm.{stepped, floorCode, packedNorm, unpackedNorm}
 use Rattle.builtins.specs.Exponent.{fractionOf, exponentOf}
-use Rattle.builtins.specs.Pack.{filled, packed, unpacked}
-use Rattle.builtins.specs.Fold.{refused, answered, answeredTwice, foldOf}
+use Rattle.losses.specs.Losses.{lossBetween}
+use Rattle.builtins.specs.Pack.{filled, packed, unpacked, lossIn}
+use Rattle.builtins.specs.Fold.{refused, answered, answeredTwice, answeredLosing, foldOf}
 
 abbrev call : Builtin → ℕ → Value → Value → Value → Call
 call f n x y z = record { builtin = f; count = n; target = Empty; a = x; b = y; c = z }
@@ -48,6 +49,10 @@ minus n = 2 ^ 32 - n
 abbrev gives : Call → Value → Call × Answer
 gives c v = (c, answered v)
 
+-- with what is lost
+abbrev loses : ℕ → Call → Value → Call × Answer
+loses n c v = (c, answeredLosing n v)
+
 abbrev pub marked : List (Call × Answer)
 marked =
     gives (call1 Pack4x8unorm (four F32 0x3b00_8080 0 0 0)) (scalar U32 0x0000_0001)
@@ -56,8 +61,8 @@ marked =
     ∷ gives (call1 Pack4x8snorm (foldOf (call1 Unpack4x8snorm (scalar U32 0x8080_8080)) .first)) (scalar U32 0x8181_8181)
     ∷ gives (call1 Pack4xI8Clamp (four I32 (minus 1) 0 0 0)) (scalar U32 0xffff_ffff)
     ∷ gives (call1 Pack4xU8Clamp (four U32 256 0 0 0)) (scalar U32 0)
-    ∷ gives (call1 Pack2x16float (pair F32 0x477f_efff 0x477f_f000)) (scalar U32 0x7c00_7bff)
-    ∷ gives (call1 Pack2x16float (pair F32 0x3300_0000 0x3300_0001)) (scalar U32 0x0001_0000)
+    ∷ loses 2 (call1 Pack2x16float (pair F32 0x477f_efff 0x477f_f000)) (scalar U32 0x7c00_7bff)
+    ∷ loses 1 (call1 Pack2x16float (pair F32 0x3300_0000 0x3300_0001)) (scalar U32 0x0001_0000)
     ∷ (call1 Frexp (scalar F32 0x8000_0000), answeredTwice (scalar F32 0x8000_0000) (scalar I32 0))
     ∷ gives (call2 Ldexp (scalar F32 0x3f80_0000) (scalar I32 128)) (scalar F32 0x7f80_0000)
     ∷ gives (call2 Ldexp (scalar F32 0x3f80_0000) (scalar I32 (minus 149))) (scalar F32 0x0000_0001)
@@ -70,5 +75,5 @@ marked =
     ∷ []
 
 pub holds : map (λ (p : Call × Answer). foldOf (p .0)) marked ≡ map (λ (p : Call × Answer). p .1) marked
-unfolding foldOf judged refused answered answeredTwice value emptyValue wellFormed lanewise lanewise2 lanewise3 dotOf fraction exponent fractionOf exponentOf stepped floorCode packedNorm unpackedNorm filled packed unpacked ldexp F.fields F.pattern F.rounded F.magnitudeOf C.convertedMagnitude C.converted Ieee.size Ieee.ofBits Ieee.toBits Ieee.add Ieee.mul Ieee.div Ieee.lt Ieee.isNan Ieee.ofInt
+unfolding foldOf judged refused answered answeredTwice answeredLosing lossIn lossBetween value emptyValue wellFormed lanewise lanewise2 lanewise3 dotOf fraction exponent fractionOf exponentOf stepped floorCode packedNorm unpackedNorm filled packed unpacked ldexp F.fields F.pattern F.rounded F.magnitudeOf C.convertedMagnitude C.converted Ieee.size Ieee.ofBits Ieee.toBits Ieee.add Ieee.mul Ieee.div Ieee.lt Ieee.isNan Ieee.ofInt
 holds = refl

@@ -21,7 +21,7 @@ use Rattle.calls.specs.Table.{Taken, Only, Row, Unary, taken, takes}
 use Rattle.calls.specs.Refuse.{judged}
 use Rattle.builtins.specs.declared.Answer.{Answer}
 use Rattle.builtins.specs.Pack.{word, packed, unpacked}
-use Rattle.builtins.specs.Fold.{answered, answerBy, foldOf}
+use Rattle.builtins.specs.Fold.{answered, answeredLosing, answerBy, foldOf}
 use Rattle.formats.specs.Formats.{Format, x8snorm, x8unorm, xI8, xU8, x16snorm, x16unorm, x16float, packer, unpacker, lanesKind, normalForm, callOne, packing, unpacking, PackUnpack, SameLanes, PacksNormal}
 use Rattle.builtins.proofs.Folded.{folds}
 use Rattle.builtins.proofs.Packed.{value-lanes}
@@ -54,8 +54,9 @@ packer-row = by-format (λ f. takes (packer f) ≡ Unary (Only (lanesKind f))) r
 unpacker-row : (f : Format) → takes (unpacker f) ≡ Unary (Only (One U32))
 unpacker-row = by-format (λ f. takes (unpacker f) ≡ Unary (Only (One U32))) refl refl refl refl refl refl refl
 
-packer-answer : (v : Value) (f : Format) → answerBy (packer f) Empty v emptyValue emptyValue ≡ answered (packed (coding f .width) (coding f .code) v)
-packer-answer v = by-format (λ f. answerBy (packer f) Empty v emptyValue emptyValue ≡ answered (packed (coding f .width) (coding f .code) v)) refl refl refl refl refl refl refl
+packer-answer : (v : Value) (f : Format) → answerBy (packer f) Empty v emptyValue emptyValue .first ≡ packed (coding f .width) (coding f .code) v
+unfolding answered answeredLosing
+packer-answer v = by-format (λ f. answerBy (packer f) Empty v emptyValue emptyValue .first ≡ packed (coding f .width) (coding f .code) v) refl refl refl refl refl refl refl
 
 unpacker-answer : (v : Value) (f : Format) → answerBy (unpacker f) Empty v emptyValue emptyValue ≡ answered (unpacked (coding f .width) (coding f .count) (coding f .lane) (lanesKind f) v)
 unpacker-answer v =
@@ -96,8 +97,8 @@ module _ (f : Format) where
   -- ---- what the calls give
 
   packs : (v : Value) → wellFormed v ≡ true → v .kind ≡ lanesKind f → packing f v ≡ word (joined w (codes (lanesOf v)))
-  unfolding answered packed
-  packs v h e = ap (λ (a : Answer). a .first) (answers (packer f) (Only (lanesKind f)) v (packer-row f) h (rw e (itself (lanesKind f))) ∙ packer-answer v f)
+  unfolding packed
+  packs v h e = ap (λ (a : Answer). a .first) (answers (packer f) (Only (lanesKind f)) v (packer-row f) h (rw e (itself (lanesKind f)))) ∙ packer-answer v f
 
   unpacks : (x : ℕ) → x < 2 ^ 32 → unpacking f x ≡ lanesValue x
   unfolding answered unpacked value

@@ -1,12 +1,13 @@
--- The words of an answer, where there is room for them all, are read as its two values: each has 16 lanes, as it is well formed or empty. Assumes nothing.
+-- The words of an answer, where there is room for them all, are read as its two values and its loss: each value has 16 lanes, as it is well formed or empty. Assumes nothing.
 use Prim.Native.Nat.{ℕ, _+_, _≤_}
-use mathlib.Core.List.{List, [], _++_, append-assoc}
+use mathlib.Core.List.{List, [], _∷_, _++_, append-assoc}
 use mathlib.Core.Logic.{⊎-elim}
 use mathlib.Core.Path.{_≡_, refl, ap, sym, _∙_}
 use native.Mathlib.Omega.{arith}
 use borrow.Author.Tests.{eqb-true, eqb-false}
 use lib.Dec.{eqb}
-use lib.ListN.{length, drop}
+use lib.ListN.{length, drop, getD, length-append}
+use lib.Seq.{getD-append-seam}
 use Rattle.values.specs.Value.{emptyValue}
 use Rattle.values.proofs.Bools.{either}
 use Rattle.buffers.specs.Memory.{put}
@@ -25,16 +26,16 @@ module _ (w : List ℕ) where
   unfolding callOf
   held = record { a = lanes-16 w 3; b = lanes-16 w 20; c = lanes-16 w 37 }
 
-  module _ (room : ℕ) (h : 34 ≤ room) where
+  module _ (room : ℕ) (h : 35 ≤ room) where
     in-room : foldOf (callOf w) .refusal ≡ 0 → (refusalIn room w ≡ 0) × (writtenIn room w ≡ answerOf w)
     unfolding refusalIn writtenIn
-    in-room e = given-room room 34 (foldOf (callOf w) .refusal) (answerOf w) e h
+    in-room e = given-room room 35 (foldOf (callOf w) .refusal) (answerOf w) e h
 
     told : refusalIn room w ≡ foldOf (callOf w) .refusal
     unfolding refusalIn writtenIn
     told =
         let refusal = foldOf (callOf w) .refusal in
-        ⊎-elim (λ t. in-room (eqb-true refusal 0 t) .0 ∙ sym (eqb-true refusal 0 t)) (λ t. given-refused room 34 refusal (answerOf w) (eqb-false refusal 0 t) .0) (either (eqb refusal 0))
+        ⊎-elim (λ t. in-room (eqb-true refusal 0 t) .0 ∙ sym (eqb-true refusal 0 t)) (λ t. given-refused room 35 refusal (answerOf w) (eqb-false refusal 0 t) .0) (either (eqb refusal 0))
 
   module _ (e : foldOf (callOf w) .refusal ≡ 0) where
     formed : AnswerFormed (foldOf (callOf w))
@@ -48,19 +49,34 @@ module _ (w : List ℕ) where
     second-16 = ⊎-elim (λ none. rw none) (λ pair. pair .second .lanes) (formed .second)
 
   -- of memory o before and o′ after
-  pub answer-words : (o : List ℕ) {r : ℕ} {o′ : List ℕ} → 34 ≤ length o → r ≡ refusalIn (length o) w → o′ ≡ put o 0 (writtenIn (length o) w)
-      → (r ≡ foldOf (callOf w) .refusal) × (r ≡ 0 → (valueAt o′ 0 ≡ foldOf (callOf w) .first) × (valueAt o′ 17 ≡ foldOf (callOf w) .second))
-  unfolding put answerOf
-  answer-words o {r} {o′} h er eo = (is, values)
-    where
-      is : r ≡ foldOf (callOf w) .refusal
-      is = er ∙ told (length o) h
+  module _ (o : List ℕ) {o′ : List ℕ} (h : 35 ≤ length o) (eo : o′ ≡ put o 0 (writtenIn (length o) w)) where
+    module _ (e : foldOf (callOf w) .refusal ≡ 0) where
+      abbrev rest : List ℕ
+      rest = drop (0 + length (answerOf w)) o
 
-      values : r ≡ 0 → (valueAt o′ 0 ≡ foldOf (callOf w) .first) × (valueAt o′ 17 ≡ foldOf (callOf w) .second)
-      values z =
-          let e : foldOf (callOf w) .refusal ≡ 0 = sym is ∙ z in
+      there : o′ ≡ wordsOf (foldOf (callOf w) .first) ++ (wordsOf (foldOf (callOf w) .second) ++ (foldOf (callOf w) .loss ∷ rest))
+      unfolding put answerOf
+      there = eo ∙ ap (put o 0) (in-room (length o) h e .1) ∙ simp append-assoc
+
+      values : (valueAt o′ 0 ≡ foldOf (callOf w) .first) × (valueAt o′ 17 ≡ foldOf (callOf w) .second)
+      values =
           let first = foldOf (callOf w) .first in
           let second = foldOf (callOf w) .second in
-          let rest : List ℕ = drop (0 + length (answerOf w)) o in
-          let there : o′ ≡ wordsOf first ++ (wordsOf second ++ rest) = eo ∙ ap (put o 0) (in-room (length o) h e .1) ∙ simp append-assoc in
-          (said [] (wordsOf second ++ rest) first (first-16 e) there refl, said (wordsOf first) rest second (second-16 e) there (omega (arith, first-16 e)))
+          let past : List ℕ = foldOf (callOf w) .loss ∷ rest in
+          (said [] (wordsOf second ++ past) first (first-16 e) there refl, said (wordsOf first) past second (second-16 e) there (omega (arith, first-16 e)))
+
+      pub answer-loss : getD o′ 34 0 ≡ foldOf (callOf w) .loss
+      answer-loss =
+          let first = wordsOf (foldOf (callOf w) .first) in
+          let second = wordsOf (foldOf (callOf w) .second) in
+          let loss = foldOf (callOf w) .loss in
+          let sizes : length (first ++ second) ≡ 34 = length-append first second ∙ omega (arith, first-16 e, second-16 e) in
+          ap (λ (l : List ℕ). getD l 34 0) (there ∙ sym (append-assoc first second (loss ∷ rest))) ∙ ap (λ (k : ℕ). getD (first ++ second ++ loss ∷ rest) k 0) (sym sizes)
+          ∙ getD-append-seam (first ++ second) loss rest 0
+
+      pub loss-most : foldOf (callOf w) .loss ≤ 2
+      loss-most = formed e .loss
+
+    pub answer-words : {r : ℕ} → r ≡ refusalIn (length o) w
+        → (r ≡ foldOf (callOf w) .refusal) × (r ≡ 0 → (valueAt o′ 0 ≡ foldOf (callOf w) .first) × (valueAt o′ 17 ≡ foldOf (callOf w) .second))
+    answer-words er = let is = er ∙ told (length o) h in (is, λ z. values (sym is ∙ z))

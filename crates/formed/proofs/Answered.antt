@@ -24,6 +24,9 @@ use Rattle.calls.specs.Table.{Unary, Binary, Ternary, Taken, Anything, Booleans
 use Rattle.calls.specs.Refuse.{judged}
 use Rattle.calls.specs.Program.{Passed, Passed3}
 use Rattle.calls.proofs.Passed.{unary, binary, ternary, cast}
+use Rattle.half.specs.Convert.{halfOf}
+use Rattle.losses.specs.Losses.{lossOf}
+use Rattle.losses.proofs.Most.{number-most, largest-most}
 use Rattle.numeric.specs.Numeric.{leadingLane, onesLane, trailingLane}
 use Rattle.limits.specs.Limits.{saturateLane}
 use Rattle.products.specs.Products.{crossLane}
@@ -34,7 +37,8 @@ use Rattle.formats.specs.Formats.{x8snorm, x8unorm, xI8, xU8, x16snorm, x16unor
 use Rattle.moves.specs.Moves.{selectLane, transposeOf}
 use Rattle.builtins.specs.Logical.{allOf, anyOf, selectOf}
 use Rattle.builtins.specs.Numeric.{crossOf, dotOf}
-use Rattle.builtins.specs.Fold.{answered, answeredTwice, answerBy}
+use Rattle.builtins.specs.Pack.{packed, lossIn}
+use Rattle.builtins.specs.Fold.{answered, answeredTwice, answeredLosing, answerBy}
 use Rattle.builtins.proofs.Folded.{folds, unrefused}
 use Rattle.builtins.proofs.Chosen.{by-scalar, by-vector, lanes-to-choose}
 use Rattle.formats.proofs.LaneLaws.{laws}
@@ -47,7 +51,7 @@ held l p = record { good = p .formed; lanes = l }
 
 one : {v : Value} → Formed v → AnswerFormed (answered v)
 unfolding answered
-one f = record { first = f; second = inl refl }
+one f = record { first = f; second = inl refl; loss = omega arith }
 
 truth : (b : Bool) → Formed (value (One Boolean) (flag b ∷ []))
 truth b = one-lane Boolean (flag b) (one-of b (lit< tt) (lit< tt))
@@ -123,6 +127,16 @@ module _ (n : ℕ) (t : Kind) (a b c : Value) (la : length (a .lanes) ≡ 16) (l
       record {
         first = each1 a (held la q) is (fractionLane (scalarOf (a .kind))) (fraction-lane-below (scalarOf (a .kind)));
         second = inr (record { float = q .alone; shape = refl; second = integers (exponentLane (scalarOf (a .kind))) a (held la q) is (exponent-lane-below (scalarOf (a .kind))) });
+        loss = omega arith;
+      }
+
+  halves-formed : judged (takes Pack2x16float) n t a b c ≡ 0 → AnswerFormed (answeredLosing (lossIn a) (packed 16 halfOf a))
+  unfolding answeredLosing lossIn
+  halves-formed e =
+      record {
+        first = packed-formed (laws x16float) Two F32 a refl (unary n t a b c _ e);
+        second = inl refl;
+        loss = largest-most 2 _ (λ x. number-most (lossOf x)) (lanesOf a);
       }
 
   cross-formed : judged (takes Cross) n t a b c ≡ 0 → AnswerFormed (answered (crossOf a b))
@@ -174,7 +188,7 @@ module _ (n : ℕ) (t : Kind) (a b c : Value) (la : length (a .lanes) ≡ 16) (l
   good Pack4xU8Clamp e = one (packed-formed (laws xU8) Four U32 a refl (unary n t a b c _ e))
   good Pack2x16snorm e = one (packed-formed (laws x16snorm) Two F32 a refl (unary n t a b c _ e))
   good Pack2x16unorm e = one (packed-formed (laws x16unorm) Two F32 a refl (unary n t a b c _ e))
-  good Pack2x16float e = one (packed-formed (laws x16float) Two F32 a refl (unary n t a b c _ e))
+  good Pack2x16float e = halves-formed e
   good Unpack4x8snorm e = one (unpacked-formed (laws x8snorm) Four F32 a refl refl)
   good Unpack4x8unorm e = one (unpacked-formed (laws x8unorm) Four F32 a refl refl)
   good Unpack4xI8 e = one (unpacked-formed (laws xI8) Four I32 a refl refl)

@@ -1,4 +1,5 @@
 -- What an answered call gives is well formed, as a statement over `foldOf`. Definitions only.
+use Prim.Native.Nat.{_≤_}
 use mathlib.Core.Path.{_≡_}
 use mathlib.Core.Logic.{_⊎_}
 use mathlib.Core.Bool.{true}
@@ -17,10 +18,11 @@ pub record Pair (v w : Value) : Type 0 where
   pub shape : w .kind ≡ shaped I32 (v .kind)
   pub second : Formed w
 
--- the first value is well formed; the second is empty, or makes a pair with it
+-- the first value is well formed; the second is empty, or makes a pair with it; the loss is one of Q-7's numbers
 pub record AnswerFormed (a : Answer) : Type 0 where
   pub first : Formed (a .first)
   pub second : (a .second ≡ emptyValue) ⊎ Pair (a .first) (a .second)
+  pub loss : a .loss ≤ 2
 
 -- a call as a record holds it: 16 lanes each
 pub record Held (call : Call) : Type 0 where

@@ -20,7 +20,7 @@ use Rattle.calls.specs.declared.Call.{Call}
 use Rattle.calls.specs.Table.{Row, Absent, Unary, Binary, Ternary, Cast, takes}
 use Rattle.calls.specs.Refuse as Refuse
 use Rattle.calls.specs.Refuse.{inTable, arity, formed, takenAlone, takenTogether, sized, firstOf, judged}
-use Rattle.builtins.specs.Fold.{refused, answered, answeredTwice, answerBy, foldBy, foldOf}
+use Rattle.builtins.specs.Fold.{refused, answered, answeredTwice, answeredLosing, answerBy, foldBy, foldOf}
 use Rattle.buffers.specs.Text.{sameBytes}
 use Rattle.buffers.proofs.Lookup.{found, same-true, same-itself}
 use Rattle.spelling.specs.declared.Fault.{Fault}
@@ -141,7 +141,7 @@ module _ (row : Row) (n : ℕ) (t : Kind) (a b c : Value) where
 
 -- what a builtin answers has no refusal, but Unknown's 1
 answer-most : (which : Builtin) (t : Kind) (a b c : Value) → answerBy which t a b c .refusal ≤ 1
-unfolding answered answeredTwice refused
+unfolding answered answeredTwice answeredLosing refused
 answer-most which t a b c = leb-true _ 1 (each-builtin (λ w. leb (answerBy w t a b c .refusal) 1) refl which)
 
 fold-3 : (m : ℕ) (c : Call) → foldBy m c .refusal ≡ 3 → m ≡ 3

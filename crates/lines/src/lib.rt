@@ -98,7 +98,7 @@ pub fn fold_line(line: &[u8], out: &mut [u8]) -> LineAnswer
     }
     let mut call: [u64; 54] = [0; 54];
     put_call(&mut call, line);
-    let mut answer: [u64; 34] = [0; 34];
+    let mut answer: [u64; 35] = [0; 35];
     let refusal = builtins::fold(&call, &mut answer);
     if refusal == 3 {
         return misspelled(line);

@@ -1,5 +1,7 @@
 -- An answer as one number, for a program that links the library. Definitions only.
 use Prim.Native.Nat.{ℕ, _+_, _*_, _^_}
+use Rattle.losses.specs.declared.Converted.{Converted}
+use Rattle.losses.specs.Losses.{lossNumber}
 use Rattle.answers.specs.declared.LineAnswer.{LineAnswer}
 use Rattle.reading.specs.declared.ReadInto.{ReadInto}
 use Rattle.writing.specs.declared.Written.{Written}
@@ -8,6 +10,10 @@ use Rattle.diffs.specs.declared.Compared.{Compared}
 use Rattle.diffs.specs.declared.Side.{Side}
 use Rattle.diffs.specs.declared.Side.the-variants.{Neither, Left, Right}
 use Rattle.diffs.specs.declared.Place.{Place}
+
+-- of a conversion, its half and what was lost
+abbrev pub toldNumber : Converted → ℕ
+toldNumber c = lossNumber (c .loss) * 2 ^ 16 + c .half
 
 -- a refusal and how much there is of an answer, or where its fault is, in one number
 abbrev pub refusalOrCount : ℕ → ℕ → ℕ

@@ -3,18 +3,26 @@ use answers::LineAnswer;
 use diffs::Compared;
 use diffs::Place;
 use diffs::Side;
+use losses::Converted;
 use reading::ReadInto;
 use sorting::Sorted;
 use writing::Written;
 ghost use mathlib.Core.Path.{_≡_};
 ghost use Prim.Native.Nat.{_+_, _<_, _≤_};
-ghost use Rattle.numbers.specs.Number.{refusalOrCount, lineNumber, readNumber, writtenNumber, sortNumber, diffNumber, sideNumber, placeNumber};
+ghost use Rattle.numbers.specs.Number.{toldNumber, refusalOrCount, lineNumber, readNumber, writtenNumber, sortNumber, diffNumber, sideNumber, placeNumber};
 
 fn refusal_or_count(refusal: u8, n: usize) -> u64
     requires { ⌜ n < 4294967296 ⌝ }
     ensures { λ r. ⌜ r ≡ refusalOrCount refusal n ⌝ }
 {
     (refusal as u64) * 0x1_0000_0000 + n as u64
+}
+
+pub fn told_number(c: Converted) -> u32
+    ensures { λ r. ⌜ r ≡ toldNumber c ⌝ }
+{
+    let loss = c.loss;
+    (losses::loss_number(loss) as u32) * 0x1_0000 + c.half as u32
 }
 
 pub fn line_number(a: LineAnswer) -> u64

@@ -1,13 +1,14 @@
 // The lanes of packed words. A format is the width of its lanes, 8 or 16, and a coding: how a lane becomes a code of that width, and a code a lane.
 ghost use mathlib.Core.Path.{_≡_};
 ghost use mathlib.Core.List.{[], _∷_, _++_, map};
-ghost use Prim.Native.Nat.{_%_, _^_, _<_};
+ghost use Prim.Native.Nat.{_%_, _^_, _<_, max};
 ghost use lib.ListN.{take, getD};
 ghost use lib.Bits.{bitOr};
 ghost use Rattle.values.specs.Program.{four};
 ghost use Rattle.numeric.specs.Parts.{parts, joined};
+ghost use Rattle.losses.specs.Losses.{largest};
 ghost use Rattle.packing.specs.Lanes.{extended, fillingFrom};
-ghost use Rattle.packing.specs.Program.{code8Of, lane8Of, code16Of, lane16Of};
+ghost use Rattle.packing.specs.Program.{code8Of, lane8Of, code16Of, loss16Of, lane16Of, coded};
 
 pub enum Coding8 {
     Snorm,
@@ -47,13 +48,37 @@ fn code8(t: Coding8, x: u32) -> u8
     }
 }
 
-fn code16(t: Coding16, x: u32) -> u16
-    ensures { λ r. ⌜ r ≡ code16Of t x ⌝ }
+// A code of 16 bits and the number of what was lost.
+pub struct Coded16 {
+    pub code: u16,
+    pub loss: u8,
+}
+
+fn coded(code: u16, loss: u8) -> Coded16
+    ensures { λ r. ⌜ r ≡ coded code loss ⌝ }
+{
+    Coded16 {
+        code: code,
+        loss: loss,
+    }
+}
+
+fn coded_half(x: u32) -> Coded16
+    ensures { λ r. ⌜ r ≡ coded (code16Of Coding16.Float x) (loss16Of Coding16.Float x) ⌝ }
+{
+    let c = losses::f32_to_f16_told(x);
+    let loss = c.loss;
+    coded(c.half, losses::loss_number(loss))
+}
+
+// Only a half tells what it lost.
+fn code16(t: Coding16, x: u32) -> Coded16
+    ensures { λ r. ⌜ r ≡ coded (code16Of t x) (loss16Of t x) ⌝ }
 {
     match t {
-        Coding16::Snorm => low16(norm::pack_snorm16(x)),
-        Coding16::Unorm => low16(norm::pack_unorm16(x)),
-        Coding16::Float => half::f32_to_f16(x),
+        Coding16::Snorm => coded(low16(norm::pack_snorm16(x)), 0),
+        Coding16::Unorm => coded(low16(norm::pack_unorm16(x)), 0),
+        Coding16::Float => coded_half(x),
     }
 }
 
@@ -121,10 +146,28 @@ pub fn word8(t: Coding8, x: [u32; 4]) -> u32
     )
 }
 
-pub fn word16(t: Coding16, x: [u32; 4]) -> u32
-    ensures { λ r. ⌜ r ≡ joined 16 (take 2 (four (code16Of t) x)) ⌝ }
+// The larger of two losses' numbers.
+fn larger(a: u8, b: u8) -> u8
+    ensures { λ r. ⌜ r ≡ max a b ⌝ }
 {
-    join16(code16(t, x[0]), code16(t, x[1]))
+    if a < b { b } else { a }
+}
+
+// A word of two codes, and the larger of their losses' numbers.
+pub struct PackedWord {
+    pub word: u32,
+    pub loss: u8,
+}
+
+pub fn word16(t: Coding16, x: [u32; 4]) -> PackedWord
+    ensures { λ r. ⌜ (r .word ≡ joined 16 (take 2 (four (code16Of t) x))) × (r .loss ≡ largest (take 2 (four (loss16Of t) x))) ⌝ }
+{
+    let a = code16(t, x[0]);
+    let b = code16(t, x[1]);
+    PackedWord {
+        word: join16(a.code, b.code),
+        loss: larger(a.loss, b.loss),
+    }
 }
 
 pub fn lanes8(t: Coding8, x: u32) -> [u32; 4]

@@ -17,7 +17,7 @@ use Rattle.calls.specs.Table.{Row, takes, builtinAt}
 use Rattle.calls.specs.Refuse.{inTable, judged, refusalOf}
 use Rattle.calls.specs.Words.{callOf}
 use Rattle.calls.proofs.Shaped.{each}
-use Rattle.builtins.specs.Fold.{refused, answered, answeredTwice, answerBy, foldBy, foldOf}
+use Rattle.builtins.specs.Fold.{refused, answered, answeredTwice, answeredLosing, answerBy, foldBy, foldOf}
 
 in-table : (row : Row) (n : ℕ) (t : Kind) (a b c : Value) → judged row n t a b c ≡ 0 → inTable row ≡ true
 unfolding judged
@@ -28,7 +28,7 @@ module _ (t : Kind) (a b c : Value) where
   answers i which = cond (inTable (takes which)) (eqb (answerBy which t a b c .refusal) 0) true
 
   no-refusal : (i : ℕ) → inTable (takes (builtinAt i)) ≡ true → eqb (answerBy (builtinAt i) t a b c .refusal) 0 ≡ true
-  unfolding answered answeredTwice
+  unfolding answered answeredTwice answeredLosing
   no-refusal i h = rw h at (each answers (λ n. refl) refl i)
 
 pub refused-so : (w : List ℕ) → eqb (foldOf (callOf w) .refusal) 0 ≡ false → foldOf (callOf w) ≡ refused (foldOf (callOf w) .refusal)

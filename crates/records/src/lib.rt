@@ -2,7 +2,8 @@
 use builtins::Answer;
 use calls::Call;
 ghost use mathlib.Core.Path.{_≡_};
-ghost use lib.ListN.{length, replicate};
+ghost use Prim.Native.Nat.{_<_, _≤_};
+ghost use lib.ListN.{length, replicate, getD};
 ghost use Rattle.calls.specs.Words.{callOf};
 ghost use Rattle.builtins.specs.Fold.{foldOf};
 
@@ -27,9 +28,17 @@ fn put_call(w: &mut [u64], call: Call)
     );
 }
 
-// A refused call leaves the words of its answer as they are: two empty values.
+// What was lost, behind an answer's two values.
+fn loss_in(out: &[u64]) -> u8
+    requires { ⌜ (34 < length (now out)) × (getD (now out) 34 0 ≤ 2) ⌝ }
+    ensures { λ r. ⌜ r ≡ getD (now (out .entry)) 34 0 ⌝ }
+{
+    out[34] as u8
+}
+
+// A refused call leaves the words of its answer as they are: two empty values and no loss.
 fn fold_in(w: &mut [u64], out: &mut [u64], call: Call) -> Answer
-    requires { ⌜ (length (now w) ≡ 54) × (now out ≡ replicate 34 0) ⌝ }
+    requires { ⌜ (length (now w) ≡ 54) × (now out ≡ replicate 35 0) ⌝ }
     ensures { λ r. ⌜ r ≡ foldOf call ⌝ }
 {
     put_call(w, call);
@@ -38,6 +47,7 @@ fn fold_in(w: &mut [u64], out: &mut [u64], call: Call) -> Answer
         refusal: refusal,
         first: words::value_at(out, 0),
         second: words::value_at(out, 17),
+        loss: loss_in(out),
     }
 }
 
@@ -46,6 +56,6 @@ pub fn fold(call: Call) -> Answer
     ensures { λ r. ⌜ r ≡ foldOf call ⌝ }
 {
     let mut w = [0; 54];
-    let mut out = [0; 34];
+    let mut out = [0; 35];
     fold_in(&mut w, &mut out, call)
 }

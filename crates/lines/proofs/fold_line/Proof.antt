@@ -29,9 +29,9 @@ unfolding lineOf
 not-long line h = rw (le-ltb 400 (length line) h)
 
 -- the words of its call give its answer's
-answers : (line w o : List ℕ) {r : ℕ} {o′ : List ℕ} → length line ≤ 400 → Called.callOf w ≡ callOf line → 34 ≤ length o
+answers : (line w o : List ℕ) {r : ℕ} {o′ : List ℕ} → length line ≤ 400 → Called.callOf w ≡ callOf line → 35 ≤ length o
     → r ≡ Told.refusalIn (length o) w → o′ ≡ put o 0 (Told.writtenIn (length o) w) → Answers r o′ (lineOf line)
-answers line w o h e k er eo = rw (not-long line h, ← e) (answer-words w o k er eo)
+answers line w o h e k er eo = rw (not-long line h, ← e) (answer-words w o k eo er)
 
 returns : tie.Need-returns
 unfolding refused writtenIn
@@ -64,7 +64,7 @@ returns-2 c =
     let a = c .before .before .before .before .before .before .before .before .before .before .before .before .args in
     let f = c .before .before .before .fold in
     let w = c .before .before .before .before .before .before .before .put-call in
-    let is = answers (a .line .now) (w .last .0) (replicate 34 0) (omega arith) (w .ensures) (omega arith) (f .ensures .0) (f .ensures .1) .0 in
+    let is = answers (a .line .now) (w .last .0) (replicate 35 0) (omega arith) (w .ensures) (omega arith) (f .ensures .0) (f .ensures .1) .0 in
     let m = misspelled-line (length (a .out .now)) (a .line .now) (sym is ∙ c .before .if2 .taken) (c .misspelled .ensures) in
     (m .0, sym (ap (put (a .out .now) 0) (m .1) ∙ put-nil (a .out .now) 0))
 
@@ -83,7 +83,7 @@ returns-3 c =
     let a = c .before .before .before .before .before .before .before .before .before .before .before .before .before .before .before .before .args in
     let f = c .before .before .before .before .before .before .before .fold in
     let w = c .before .before .before .before .before .before .before .before .before .before .before .put-call in
-    let so = answers (a .line .now) (w .last .0) (replicate 34 0) (omega arith) (w .ensures) (omega arith) (f .ensures .0) (f .ensures .1) in
+    let so = answers (a .line .now) (w .last .0) (replicate 35 0) (omega arith) (w .ensures) (omega arith) (f .ensures .0) (f .ensures .1) in
     let r = c .before .before .put-answer .ensures (lineOf (a .line .now)) so in
     (answered-line (length (a .out .now)) (a .line .now) (λ z. c .before .before .before .before .before .if2 .left (so .0 ∙ z)) (r .0), r .1)
 

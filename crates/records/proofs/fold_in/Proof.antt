@@ -1,7 +1,9 @@
 -- What is read of the answer's words is the answer, by `answer-read`. Assumes nothing.
 use mathlib.Core.Path.{ap, _∙_}
+use native.Mathlib.Omega.{arith}
+use lib.ListN.{length}
 use Rattle.builtins.specs.Fold.{foldOf}
-use Rattle.records.proofs.Read.{answer-read}
+use Rattle.records.proofs.Read.{loss-few, answer-read}
 use borrow.Author.Needs.{needs}
 use Rattle.records.proofs.fold_in.Statement.{statement}
 use Rattle.records.proofs.fold_in.Tie as tie
@@ -18,6 +20,12 @@ value-at-requires c κs = search needs
 value-at-requires-2 : tie.Need-value-at-requires-2
 value-at-requires-2 c κs = search needs
 
+loss-in-requires : tie.Need-loss-in-requires
+loss-in-requires c κs =
+    let start = c .before .before .before .before .before .before .before .before .before .before .before .before .before .before .before .before in
+    let w = c .before .before .before .before .before .before .before .before .before .before .before .before .put-call .last .0 in
+    (omega (arith, ap length (start .pre .1), c .before .before .before .before .before .before .out .given), loss-few w (rw (start .pre .1) at (c .before .before .before .before .before .before .before .fold .ensures .1)))
+
 same-length : tie.Need-same-length
 same-length c = search needs
 
@@ -26,10 +34,11 @@ same-length-2 c = search needs
 
 returns : tie.Need-returns
 returns c =
-    let start = c .before .before .before .before .before .before .before .before .before .before .before .before .before .before .before in
-    let f = c .before .before .before .before .before .before .fold in
-    answer-read (c .before .before .before .before .before .before .before .before .before .before .before .put-call .last .0) (rw (start .pre .1) at (f .ensures .0)) (rw (start .pre .1) at (f .ensures .1)) (c .before .before .value-at .ensures) (c .value-at2 .ensures)
-    ∙ ap foldOf (c .before .before .before .before .before .before .before .before .before .before .before .put-call .ensures)
+    let start = c .before .before .before .before .before .before .before .before .before .before .before .before .before .before .before .before .before in
+    let f = c .before .before .before .before .before .before .before .before .fold in
+    let call = c .before .before .before .before .before .before .before .before .before .before .before .before .before .put-call in
+    answer-read (call .last .0) (rw (start .pre .1) at (f .ensures .1)) (rw (start .pre .1) at (f .ensures .0)) (c .before .before .before .before .value-at .ensures) (c .before .before .value-at2 .ensures) (c .loss-in .ensures)
+    ∙ ap foldOf (call .ensures)
 
 pub fold-in-spec : {M : Type 1} → statement M
 fold-in-spec =
@@ -39,6 +48,7 @@ fold-in-spec =
     fold-requires
     value-at-requires
     value-at-requires-2
+    loss-in-requires
     same-length
     same-length-2
     returns)

@@ -10,7 +10,7 @@ use Rattle.calls.specs.Words.{callOf}
 use Rattle.calls.specs.Program.{FirstMatrix}
 use Rattle.calls.proofs.Converse.{unformed}
 use Rattle.builtins.specs.Fold.{foldOf}
-use Rattle.builtins.proofs.Folded.{told-refused, told-short, told-written, told-answer}
+use Rattle.builtins.proofs.Folded.{told-refused, told-short, told-one, told-answer}
 use Rattle.builtins.proofs.Matrices.{OneValue, one-value}
 use borrow.Author.Needs.{needs}
 use Rattle.builtins.proofs.matrix.fold.Statement.{statement}
@@ -58,15 +58,18 @@ put-first-requires c κs = (first (c .before .before), search needs, unrefused (
 clear-requires : tie.Need-clear-requires
 clear-requires c κs = search needs
 
+put-loss-requires : tie.Need-put-loss-requires
+put-loss-requires c κs = search needs
+
 same-length : tie.Need-same-length
 same-length c = search needs
 
 returns-3 : tie.Need-returns-3
 returns-3 c =
-    let a = c .before .before .before .before .before .before .before .before .before .before .before .before .before .args in
-    let o = one (c .before .before .before .before .before .before .before .before .before) in
+    let a = c .before .before .before .before .before .before .before .before .before .before .before .before .before .before .before .before .before .args in
+    let o = one (c .before .before .before .before .before .before .before .before .before .before .before .before .before) in
     told-answer (a .out .now) (a .w .now) refl (o .refusal)
-    (told-written (foldOf (callOf (a .w .now))) (a .out .now) (c .before .before .before .before .before .before .before .before .if2 .left) (o .sixteen) (c .before .before .before .before .before .before .put-first .ensures) (rw (o .second) (c .before .before .clear .ensures)))
+    (told-one (foldOf (callOf (a .w .now))) (a .out .now) (c .before .before .before .before .before .before .before .before .before .before .before .before .if2 .left) (o .sixteen) (o .second) (o .loss) (c .before .before .before .before .before .before .before .before .before .before .put-first .ensures) (c .before .before .before .before .before .before .clear .ensures) (c .before .before .put-loss .ensures))
 
 pub fold-spec : {M : Type 1} → statement M
 fold-spec =
@@ -77,5 +80,6 @@ fold-spec =
     returns-2
     put-first-requires
     clear-requires
+    put-loss-requires
     same-length
     returns-3)
