@@ -144,6 +144,7 @@ fn programs(text: &[u8], foldlines: &str, rustlines: &str, emulator: &[String]) 
 
 extern "C" {
     fn chanrelout_f32_to_f16(bits: u32) -> u16;
+    fn chanrelout_f32_to_f16_told(bits: u32) -> u32;
     fn chanrelout_f16_to_f32(bits: u16) -> u32;
 }
 
@@ -166,8 +167,23 @@ fn halves() {
     report("f32 to f16, any", COUNT, times);
     let times = converted(&near, chanrelout_f32_to_f16, crate_f32_to_f16);
     report("f32 to f16, in range", COUNT, times);
+    let times = converted(&near, chanrelout_f32_to_f16_told, crate_f32_to_f16_told);
+    report("f32 to f16, told", COUNT, times);
     let times = converted(&short, chanrelout_f16_to_f32, crate_f16_to_f32);
     report("f16 to f32", COUNT, times);
+}
+
+/// The half crate's conversion, and what it lost by its way back: the loss above the half's 16 bits.
+extern "C" fn crate_f32_to_f16_told(bits: u32) -> u32 {
+    let half = crate_f32_to_f16(bits);
+    let loss = if bits & 0x7FFF_FFFF >= 0x7F80_0000 || crate_f16_to_f32(half) == bits {
+        0
+    } else if half & 0x7FFF == 0x7C00 {
+        2
+    } else {
+        1
+    };
+    loss << 16 | u32::from(half)
 }
 
 type Conversion<A, B> = unsafe extern "C" fn(A) -> B;
