@@ -53,13 +53,12 @@ fn put_plain(w: &mut [u64], table: &[u8; 256], builtin: u64, line: &[u8], name: 
     calls::put_head(w, builtin, count as u64, 0);
 }
 
-// The words of the call that a line spells.
-fn put_call(w: &mut [u64], line: &[u8])
-    requires { ⌜ length (now w) ≡ 54 ⌝ }
+// The words of the call that a line of this name spells.
+fn put_call(w: &mut [u64], line: &[u8], name: &[u8])
+    requires { ⌜ (length (now w) ≡ 54) × (now name ≡ fieldAt (now line) 0) ⌝ }
     ensures { λ _. ⌜ Words.callOf (now (w .exit)) ≡ callOf (now (line .entry)) ⌝ }
 {
     let table = spelling::digit_table();
-    let name = fields::field(line, 0);
     let builtin = names::number_of(name);
     if buffers::same(b"bitcast", name) {
         put_cast(w, &table, builtin, line);
@@ -70,13 +69,13 @@ fn put_call(w: &mut [u64], line: &[u8])
 
 // ---- its answer
 
-// What is told of a line whose call is refused by 3: what is misspelled, and where.
-fn misspelled(line: &[u8]) -> LineAnswer
-    requires { ⌜ length (now line) ≤ 400 ⌝ }
+// What is told of a line of this name whose call is refused by 3: what is misspelled, and where.
+fn misspelled(line: &[u8], name: &[u8]) -> LineAnswer
+    requires { ⌜ (length (now line) ≤ 400) × (now name ≡ fieldAt (now line) 0) ⌝ }
     ensures { λ r. ⌜ r ≡ misspelledLine (now (line .entry)) ⌝ }
 {
-    let cast = buffers::same(b"bitcast", fields::field(line, 0));
-    let m = misspellings::line_fault(line, cast);
+    let cast = buffers::same(b"bitcast", name);
+    let m = misspellings::line_fault(line, name.len(), cast);
     LineAnswer {
         refusal: m.refusal,
         len: 0,
@@ -96,12 +95,13 @@ pub fn fold_line(line: &[u8], out: &mut [u8]) -> LineAnswer
             place: 0,
         };
     }
+    let name = fields::field(line, 0);
     let mut call: [u64; 54] = [0; 54];
-    put_call(&mut call, line);
+    put_call(&mut call, line, name);
     let mut answer: [u64; 34] = [0; 34];
     let refusal = builtins::fold(&call, &mut answer);
     if refusal == 3 {
-        return misspelled(line);
+        return misspelled(line, name);
     }
     answers::put_answer(out, refusal, &answer)
 }

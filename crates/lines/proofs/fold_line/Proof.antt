@@ -41,6 +41,9 @@ returns c =
     let r = refused-so (a .out .now) (lineOf (a .line .now)) (sym seven) (λ z. omega arith) in
     (answered-line (length (a .out .now)) (a .line .now) (λ z. omega arith) (r .0), r .1)
 
+field-requires : tie.Need-field-requires
+field-requires c κs = search needs
+
 slice-aggregate-put-call : tie.Need-slice-aggregate-put-call
 slice-aggregate-put-call c = search needs
 
@@ -61,7 +64,7 @@ misspelled-requires c κs = search needs
 
 returns-2 : tie.Need-returns-2
 returns-2 c =
-    let a = c .before .before .before .before .before .before .before .before .before .before .before .before .args in
+    let a = c .before .before .before .before .before .before .before .before .before .before .before .before .before .args in
     let f = c .before .before .before .fold in
     let w = c .before .before .before .before .before .before .before .put-call in
     let is = answers (a .line .now) (w .last .0) (replicate 34 0) (omega arith) (w .ensures) (omega arith) (f .ensures .0) (f .ensures .1) .0 in
@@ -80,7 +83,7 @@ same-length c = search needs
 returns-3 : tie.Need-returns-3
 unfolding writtenIn
 returns-3 c =
-    let a = c .before .before .before .before .before .before .before .before .before .before .before .before .before .before .before .before .args in
+    let a = c .before .before .before .before .before .before .before .before .before .before .before .before .before .before .before .before .before .args in
     let f = c .before .before .before .before .before .before .before .fold in
     let w = c .before .before .before .before .before .before .before .before .before .before .before .put-call in
     let so = answers (a .line .now) (w .last .0) (replicate 34 0) (omega arith) (w .ensures) (omega arith) (f .ensures .0) (f .ensures .1) in
@@ -92,6 +95,7 @@ fold-line-spec =
     tie.close
     (tie.spec
     returns
+    field-requires
     slice-aggregate-put-call
     put-call-requires
     slice-aggregate-fold

@@ -7,9 +7,6 @@ use Rattle.lines.proofs.put_call.Tie as tie
 digit-table-requires : tie.Need-digit-table-requires
 digit-table-requires c κs = search needs
 
-field-requires : tie.Need-field-requires
-field-requires c κs = search needs
-
 number-of-requires : tie.Need-number-of-requires
 number-of-requires c κs = search needs
 
@@ -32,7 +29,7 @@ returns : tie.Need-returns
 unfolding callOf
 returns c =
     let s = c .before .before .before .before .before .before in
-    rw (← s .before .before .before .field .ensures, ← s .same .ensures, c .before .before .before .before .before .if1 .taken, ← s .before .before .number-of .ensures) (c .before .before .put-cast .ensures)
+    rw (← s .before .before .before .before .before .before .before .pre .1, ← s .same .ensures, c .before .before .before .before .before .if1 .taken, ← s .before .before .number-of .ensures) (c .before .before .put-cast .ensures)
 
 same-length-2 : tie.Need-same-length-2
 same-length-2 c = search needs
@@ -41,14 +38,13 @@ returns-2 : tie.Need-returns-2
 unfolding callOf
 returns-2 c =
     let s = c .before .before .before .before .before .before in
-    rw (← s .before .before .before .field .ensures, ← s .same .ensures, c .before .before .before .before .before .if1 .left, ← s .before .before .number-of .ensures) (c .before .before .put-plain .ensures)
+    rw (← s .before .before .before .before .before .before .before .pre .1, ← s .same .ensures, c .before .before .before .before .before .if1 .left, ← s .before .before .number-of .ensures) (c .before .before .put-plain .ensures)
 
 pub put-call-spec : {M : Type 1} → statement M
 put-call-spec =
     tie.close
     (tie.spec
     digit-table-requires
-    field-requires
     number-of-requires
     slice-aggregate-same
     same-requires
