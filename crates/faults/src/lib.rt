@@ -104,9 +104,10 @@ fn fault_of(k: u64, s: &[u8], p: usize) -> Faulty
 pub fn fault_in(s: &[u8]) -> Faulty
     ensures { λ r. ⌜ (r .fault ≡ readValue (now (s .entry)) .fault) × (r .place ≡ readValue (now (s .entry)) .place) ⌝ }
 {
-    let c = buffers::find(s, b':');
-    if c == s.len() {
+    let p = typenames::type_from(s);
+    let c = spelling::type_len(p);
+    if typenames::byte_at(s, c) != b':' {
         return fault_at(Fault::TypeSpelling, 1);
     }
-    fault_of(typenames::type_of(&s[0..c]), &s[c + 1..], c + 2)
+    fault_of(p, &s[c + 1..], c + 2)
 }

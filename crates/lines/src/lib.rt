@@ -9,7 +9,7 @@ ghost use Rattle.calls.specs.Table.{builtinAt};
 ghost use Rattle.calls.specs.Words as Words;
 ghost use Rattle.spelling.specs.Hex.{DigitTable};
 ghost use Rattle.fields.specs.Fields.{fieldAt, argumentCount};
-ghost use Rattle.lines.specs.Line.{castCall, plainCall, callOf, lineAnswer, writtenIn};
+ghost use Rattle.lines.specs.Line.{castCall, plainCall, isCast, callOf, lineAnswer, writtenIn};
 ghost use Rattle.lines.specs.Program.{misspelledLine};
 
 // ---- the call that a line spells, as words
@@ -53,15 +53,14 @@ fn put_plain(w: &mut [u64], table: &[u8; 256], builtin: u64, line: &[u8], name: 
     calls::put_head(w, builtin, count as u64, 0);
 }
 
-// The words of the call that a line spells.
-fn put_call(w: &mut [u64], line: &[u8])
-    requires { ⌜ length (now w) ≡ 54 ⌝ }
+// The words of the call that a line of this name spells, bitcast's where `cast`.
+fn put_call(w: &mut [u64], line: &[u8], name: &[u8], cast: bool)
+    requires { ⌜ (length (now w) ≡ 54) × (now name ≡ fieldAt (now line) 0) × (cast ≡ isCast (now line)) ⌝ }
     ensures { λ _. ⌜ Words.callOf (now (w .exit)) ≡ callOf (now (line .entry)) ⌝ }
 {
     let table = spelling::digit_table();
-    let name = fields::field(line, 0);
     let builtin = names::number_of(name);
-    if buffers::same(b"bitcast", name) {
+    if cast {
         put_cast(w, &table, builtin, line);
     } else {
         put_plain(w, &table, builtin, line, name);
@@ -70,13 +69,12 @@ fn put_call(w: &mut [u64], line: &[u8])
 
 // ---- its answer
 
-// What is told of a line whose call is refused by 3: what is misspelled, and where.
-fn misspelled(line: &[u8]) -> LineAnswer
-    requires { ⌜ length (now line) ≤ 400 ⌝ }
+// What is told of a line whose call, bitcast's where `cast`, is refused by 3: what is misspelled, and where. Its name ends at `end`.
+fn misspelled(line: &[u8], end: usize, cast: bool) -> LineAnswer
+    requires { ⌜ (length (now line) ≤ 400) × (end ≡ length (fieldAt (now line) 0)) × (cast ≡ isCast (now line)) ⌝ }
     ensures { λ r. ⌜ r ≡ misspelledLine (now (line .entry)) ⌝ }
 {
-    let cast = buffers::same(b"bitcast", fields::field(line, 0));
-    let m = misspellings::line_fault(line, cast);
+    let m = misspellings::line_fault(line, end, cast);
     LineAnswer {
         refusal: m.refusal,
         len: 0,
@@ -97,11 +95,13 @@ pub fn fold_line(line: &[u8], out: &mut [u8]) -> LineAnswer
         };
     }
     let mut call: [u64; 54] = [0; 54];
-    put_call(&mut call, line);
+    let name = fields::field(line, 0);
+    let cast = buffers::same(b"bitcast", name);
+    put_call(&mut call, line, name, cast);
     let mut answer: [u64; 35] = [0; 35];
     let refusal = builtins::fold(&call, &mut answer);
     if refusal == 3 {
-        return misspelled(line);
+        return misspelled(line, name.len(), cast);
     }
     answers::put_answer(out, refusal, &answer)
 }

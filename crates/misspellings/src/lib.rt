@@ -2,6 +2,7 @@
 ghost use mathlib.Core.Path.{_≡_};
 ghost use Prim.Native.Nat.{_+_, _≤_};
 ghost use lib.ListN.{length};
+ghost use Rattle.fields.specs.Fields.{fieldAt};
 ghost use Rattle.misspellings.specs.Misspellings.{misspelled, typeFault, valueFault, fieldFault, inLine, lineFault};
 
 // A refusal, 9 to 11, and its place from 1; 0 and 0 where nothing is wrong.
@@ -56,12 +57,12 @@ fn in_line(at: usize, m: Misspelling) -> Misspelling
     misspelled(m.refusal, at + m.place - 1)
 }
 
-// What is wrong with the first argument of a line that is wrongly spelled; the first is a type where `cast`. Each turn starts at the tab before an argument.
-pub fn line_fault(line: &[u8], cast: bool) -> Misspelling
-    requires { ⌜ length (now line) ≤ 400 ⌝ }
+// What is wrong with the first argument of a line that is wrongly spelled; its name ends at `end`, and the first argument is a type where `cast`. Each turn starts at the tab before an argument.
+pub fn line_fault(line: &[u8], end: usize, cast: bool) -> Misspelling
+    requires { ⌜ (length (now line) ≤ 400) × (end ≡ length (fieldAt (now line) 0)) ⌝ }
     ensures { λ r. ⌜ r ≡ lineFault cast (now (line .entry)) ⌝ }
 {
-    let mut tab = buffers::find(line, b'\t');
+    let mut tab = end;
     let mut typed = cast;
     while tab < line.len() {
         let rest = &line[tab + 1..];

@@ -6,12 +6,11 @@ use mathlib.Core.List.{List, [], _∷_, _++_, append-assoc, append-nil}
 use mathlib.Core.Logic.{_⊎_, inl, inr, ⊎-elim}
 use mathlib.Core.Path.{_≡_, refl, ap, sym, _∙_}
 use native.Mathlib.Nat.{sub-zero}
-use native.Mathlib.Numerals.{add-one}
 use native.Mathlib.Omega.{arith}
 use borrow.Author.Tests.{eq-eqb, eqb-true, eqb-false, not-true, ltb-true, ltb-false, ne-eqb}
 use lib.Dec.{eqb, ltb}
 use lib.ListN.{length, take, drop, getD, take-append-drop}
-use lib.Seq.{take-all, drop-cons, drop-at, take-take, length-take-le, getD-at}
+use lib.Seq.{take-all, drop-at, take-take, length-take-le, getD-at}
 use Rattle.values.specs.declared.Kind.{Kind}
 use Rattle.values.specs.declared.Scalar.{Scalar}
 use Rattle.values.specs.declared.Value.{Value}
@@ -28,7 +27,7 @@ use Rattle.spelling.specs.Types.{spelled}
 use Rattle.spelling.specs.Hex.{digitCount, digitBound}
 use Rattle.spelling.specs.Read.{faultNumber, good, lanesAt, wrong, found, reading, readValue}
 use Rattle.spelling.specs.Write.{lanesText, textOf, textLength}
-use Rattle.spelling.proofs.ReadsBack.{type-back, fits, read-back}
+use Rattle.spelling.proofs.ReadsBack.{fits, read-back}
 use Rattle.spelling.proofs.Texts.{text-16, at-most-8}
 use Rattle.spelling.proofs.TextBytes.{text-tabless}
 use Rattle.spelling.proofs.WrittenSo.{Spelled, written-so, fault-empty}
@@ -38,6 +37,7 @@ use Rattle.reading.specs.Program.{ends}
 use Rattle.digits.proofs.LaneTexts.{from-most, lanes-read, lanes-there}
 use Rattle.spelling.proofs.Scan.{lanes-of}
 use Rattle.typenames.proofs.TypeTexts.{sound, complete}
+use Rattle.typenames.proofs.BeforeColon.{colon-behind}
 
 -- the lanes that the program finds in a text of a type
 abbrev pub lanesIn : Kind → List ℕ → List ℕ
@@ -169,18 +169,13 @@ module _ (t : List ℕ) where
         lanes-so = lanes-read (digitBound (scalarOf (kindAt p))) (digitCount (scalarOf (kindAt p))) 1 (take len t) (laneCount (kindAt p)) (length (spelled (kindAt p))) counted room all
 
         -- a field is its type, a colon and its lanes
-        cut : take len t ≡ spelled (kindAt p) ++ (58 ∷ drop (length (spelled (kindAt p)) + 1) (take len t))
-        cut =
-            let n = length (spelled (kindAt p)) in
-            let l : n ≤ len = omega (arith, length-take-le len t (ends-within t len at), lanes-so .1) in
-            let front : take n (take len t) ≡ spelled (kindAt p) = take-take n len t l ∙ rw ep (sound t (rw ep at some) .1) in
-            sym (take-append-drop n (take len t)) ∙ rw (front, drop-cons (take len t) n 0 (lanes-so .1), lanes-so .0, add-one)
-
         is-read : readValue (take len t) ≡ found (value (kindAt p) (lanesIn (kindAt p) (take len t)))
         is-read =
             let n = length (spelled (kindAt p)) in
+            let l : n ≤ len = omega (arith, length-take-le len t (ends-within t len at), lanes-so .1) in
+            let front : take n (take len t) ≡ spelled (kindAt p) = take-take n len t l ∙ rw ep (sound t (rw ep at some) .1) in
             let at : n + 2 ≡ 1 + (n + 1) = omega arith in
-            ap readValue cut ∙ type-back (kindAt p) (drop (n + 1) (take len t))
+            colon-behind (kindAt p) (take len t) refl front (lanes-so .0)
             ∙ rw at (sym (lanes-of (kindAt p) (1 + (n + 1)) (drop (n + 1) (take len t)) refl refl refl refl (λ z. omega (arith, counted)) (ap (reading (kindAt p)) (sym (lanes-so .2)))))
 
         first : len ≡ placeOf 9 t

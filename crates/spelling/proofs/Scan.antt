@@ -8,7 +8,7 @@ use native.Mathlib.Nat.{add-assoc, add-zero, zero-add}
 use native.Mathlib.Omega.{arith}
 use lib.Dec.{ltb}
 use lib.ListN.{length, take, drop, getD, length-drop, take-append-drop}
-use lib.Seq.{drop-cons, drop-drop, drop-length, length-take-le, take-all}
+use lib.Seq.{drop-cons, drop-drop, drop-length, length-take-le}
 use borrow.Author.Tests.{eq-eqb, ne-eqb, lt-ltb, le-ltb, ltb-true}
 use Rattle.values.specs.Value.{laneCount, scalarOf}
 use Rattle.values.proofs.Bools.{both}
@@ -16,8 +16,7 @@ use Rattle.values.specs.declared.Scalar.{Scalar}
 use Rattle.values.specs.declared.Kind.{Kind}
 use Rattle.spelling.specs.declared.Reading.{Reading}
 use Rattle.spelling.specs.Hex.{digitCount, digitBound, digitOf, digitsBelow, number}
-use Rattle.spelling.specs.Read.{digitAt, countAt, good, before, lanesAt, reading, colonAt, readLanes, readValue}
-use Rattle.spelling.specs.Types.{kindOf}
+use Rattle.spelling.specs.Read.{digitAt, countAt, good, before, lanesAt, reading, readLanes}
 use Rattle.spelling.proofs.ReadsBack.{digit-step}
 
 -- one byte of the lanes
@@ -77,15 +76,6 @@ module _ (b w n d p v : ℕ) (s : List ℕ) (i : ℕ) (q : i ≡ length s) where
   pub lanes-all : d ≡ 0 → n ≡ 0 → lanesAt b w n d (p + i) v (drop i s) ≡ good (v ∷ [])
   unfolding lanesAt
   lanes-all e f = rw (drop-end s i q, eq-eqb _ _ e, eq-eqb _ _ f)
-
--- a field with a colon, cut by parts
-pub cut-at : (s : List ℕ) {m : ℕ} {k : Kind} {r : Reading} → m ≡ colonAt s → m < length s → k ≡ kindOf (take (m - 0) (drop 0 s))
-    → r ≡ readLanes k (m + 2) (take (length s - (m + 1)) (drop (m + 1) s)) → r ≡ readValue s
-unfolding readValue
-cut-at s {m} e h ek er =
-    let z : m - 0 ≡ m = omega arith in
-    let a : take (length s - (m + 1)) (drop (m + 1) s) ≡ drop (m + 1) s = take-all (length s - (m + 1)) (drop (m + 1) s) (omega (arith, length-drop (m + 1) s)) in
-    er ∙ rw (← e, lt-ltb m (length s) h, ek, z, a)
 
 -- the lanes of a type, by its parts as the code has them
 pub lanes-of : (k : Kind) (p : ℕ) (s : List ℕ) {n w b : ℕ} {t : Scalar} {r : Reading} → n ≡ laneCount k → t ≡ scalarOf k → w ≡ digitCount t → b ≡ digitBound t

@@ -1,1 +1,2 @@
 pub mod TypeTexts
+pub mod BeforeColon

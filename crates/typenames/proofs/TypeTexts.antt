@@ -43,7 +43,7 @@ stands-both (c ∷ a) b t i h k =
     let e : i + suc (length a) ≡ suc i + length a = omega arith in
     and (u .0) (stands-both a b t (suc i) (u .1) (rw e at k))
 
-inside : (t : List ℕ) (i : ℕ) → 0 < getD t i 0 → i < length t
+pub inside : (t : List ℕ) (i : ℕ) → 0 < getD t i 0 → i < length t
 inside t i h = by (ltb i (length t)) refl
   where
     by : (on : Bool) → ltb i (length t) ≡ on → i < length t

@@ -8,7 +8,7 @@ ghost use Rattle.spelling.specs.Types.{kindOf};
 ghost use Rattle.typenames.specs.Program.{scalarBy, scalarWidth, sizeBy, vectorFrom, matrixFrom, typeFrom};
 
 // The byte at i, 0 past the end.
-fn byte_at(t: &[u8], i: usize) -> u8
+pub fn byte_at(t: &[u8], i: usize) -> u8
     ensures { λ r. ⌜ r ≡ getD (now (t .entry)) i 0 ⌝ }
 {
     if i < t.len() { t[i] } else { 0 }

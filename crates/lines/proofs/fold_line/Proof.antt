@@ -14,7 +14,10 @@ use Rattle.builtins.specs.Words as Told
 use Rattle.formed.proofs.AnswerWords.{answer-words}
 use Rattle.answers.specs.Program.{Answers}
 use Rattle.answers.proofs.Written.{refused-so}
-use Rattle.lines.specs.Line.{callOf, lineOf, writtenIn}
+use Rattle.calls.specs.declared.Builtin.the-variants.{Bitcast}
+use Rattle.buffers.specs.Text.{sameBytes}
+use Rattle.names.specs.Names.{nameOf}
+use Rattle.lines.specs.Line.{isCast, callOf, lineOf, writtenIn}
 use Rattle.lines.proofs.Written.{answered-line, misspelled-line}
 use borrow.Author.Needs.{needs}
 use Rattle.lines.proofs.fold_line.Statement.{statement}
@@ -33,6 +36,10 @@ answers : (line w o : List ℕ) {r : ℕ} {o′ : List ℕ} → length line ≤ 
     → r ≡ Told.refusalIn (length o) w → o′ ≡ put o 0 (Told.writtenIn (length o) w) → Answers r o′ (lineOf line)
 answers line w o h e k er eo = rw (not-long line h, ← e) (answer-words w o k eo er)
 
+-- whether the name is bitcast's
+cast-so : (c : tie.After-same) → c .same .result ≡ isCast (c .before .before .before .before .before .before .args .line .now)
+cast-so c = c .same .ensures ∙ ap (sameBytes (nameOf Bitcast)) (c .before .before .field .ensures)
+
 returns : tie.Need-returns
 unfolding refused writtenIn
 returns c =
@@ -41,11 +48,20 @@ returns c =
     let r = refused-so (a .out .now) (lineOf (a .line .now)) (sym seven) (λ z. omega arith) in
     (answered-line (length (a .out .now)) (a .line .now) (λ z. omega arith) (r .0), r .1)
 
+field-requires : tie.Need-field-requires
+field-requires c κs = search needs
+
+slice-aggregate-same : tie.Need-slice-aggregate-same
+slice-aggregate-same c = search needs
+
+same-requires : tie.Need-same-requires
+same-requires c κs = search needs
+
 slice-aggregate-put-call : tie.Need-slice-aggregate-put-call
 slice-aggregate-put-call c = search needs
 
 put-call-requires : tie.Need-put-call-requires
-put-call-requires c κs = search needs
+put-call-requires c κs = (search needs, c .before .before .before .field .ensures, cast-so (c .before))
 
 slice-aggregate-fold : tie.Need-slice-aggregate-fold
 slice-aggregate-fold c = search needs
@@ -57,11 +73,11 @@ fold-requires : tie.Need-fold-requires
 fold-requires c κs = search needs
 
 misspelled-requires : tie.Need-misspelled-requires
-misspelled-requires c κs = search needs
+misspelled-requires c κs = (omega arith, ap length (c .before .before .before .before .before .before .before .before .before .before .field .ensures), cast-so (c .before .before .before .before .before .before .before .before))
 
 returns-2 : tie.Need-returns-2
 returns-2 c =
-    let a = c .before .before .before .before .before .before .before .before .before .before .before .before .args in
+    let a = c .before .before .before .before .before .before .before .before .before .before .before .before .before .before .before .args in
     let f = c .before .before .before .fold in
     let w = c .before .before .before .before .before .before .before .put-call in
     let is = answers (a .line .now) (w .last .0) (replicate 35 0) (omega arith) (w .ensures) (omega arith) (f .ensures .0) (f .ensures .1) .0 in
@@ -80,7 +96,7 @@ same-length c = search needs
 returns-3 : tie.Need-returns-3
 unfolding writtenIn
 returns-3 c =
-    let a = c .before .before .before .before .before .before .before .before .before .before .before .before .before .before .before .before .args in
+    let a = c .before .before .before .before .before .before .before .before .before .before .before .before .before .before .before .before .before .before .before .args in
     let f = c .before .before .before .before .before .before .before .fold in
     let w = c .before .before .before .before .before .before .before .before .before .before .before .put-call in
     let so = answers (a .line .now) (w .last .0) (replicate 35 0) (omega arith) (w .ensures) (omega arith) (f .ensures .0) (f .ensures .1) in
@@ -92,6 +108,9 @@ fold-line-spec =
     tie.close
     (tie.spec
     returns
+    field-requires
+    slice-aggregate-same
+    same-requires
     slice-aggregate-put-call
     put-call-requires
     slice-aggregate-fold

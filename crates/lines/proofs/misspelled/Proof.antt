@@ -1,24 +1,13 @@
--- Whether the first argument is a type is asked of the line's first field. Assumes nothing.
+-- The fault is the line's, whose first argument is a type where its name is bitcast's. Assumes nothing.
 use borrow.Author.Needs.{needs}
 use Rattle.lines.proofs.misspelled.Statement.{statement}
 use Rattle.lines.proofs.misspelled.Tie as tie
-
-slice-aggregate-same : tie.Need-slice-aggregate-same
-slice-aggregate-same c = search needs
-
-field-requires : tie.Need-field-requires
-field-requires c κs = search needs
-
-same-requires : tie.Need-same-requires
-same-requires c κs = search needs
 
 line-fault-requires : tie.Need-line-fault-requires
 line-fault-requires c κs = search needs
 
 returns : tie.Need-returns
-returns c = rw (c .line-fault .ensures, c .before .same .ensures, c .before .before .field .ensures)
+returns c = rw (c .line-fault .ensures, c .before .before .pre .2)
 
 pub misspelled-spec : {M : Type 1} → statement M
-misspelled-spec =
-    tie.close
-    (tie.spec slice-aggregate-same field-requires same-requires line-fault-requires returns)
+misspelled-spec = tie.close (tie.spec line-fault-requires returns)

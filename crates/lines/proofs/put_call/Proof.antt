@@ -7,17 +7,8 @@ use Rattle.lines.proofs.put_call.Tie as tie
 digit-table-requires : tie.Need-digit-table-requires
 digit-table-requires c κs = search needs
 
-field-requires : tie.Need-field-requires
-field-requires c κs = search needs
-
 number-of-requires : tie.Need-number-of-requires
 number-of-requires c κs = search needs
-
-slice-aggregate-same : tie.Need-slice-aggregate-same
-slice-aggregate-same c = search needs
-
-same-requires : tie.Need-same-requires
-same-requires c κs = search needs
 
 put-cast-requires : tie.Need-put-cast-requires
 put-cast-requires c κs = search needs
@@ -32,7 +23,8 @@ returns : tie.Need-returns
 unfolding callOf
 returns c =
     let s = c .before .before .before .before .before .before in
-    rw (← s .before .before .before .field .ensures, ← s .same .ensures, c .before .before .before .before .before .if1 .taken, ← s .before .before .number-of .ensures) (c .before .before .put-cast .ensures)
+    let pre = s .before .before .before .before .before .pre in
+    rw (← pre .2, c .before .before .before .before .before .if1 .taken, ← pre .1, ← s .number-of .ensures) (c .before .before .put-cast .ensures)
 
 same-length-2 : tie.Need-same-length-2
 same-length-2 c = search needs
@@ -41,17 +33,15 @@ returns-2 : tie.Need-returns-2
 unfolding callOf
 returns-2 c =
     let s = c .before .before .before .before .before .before in
-    rw (← s .before .before .before .field .ensures, ← s .same .ensures, c .before .before .before .before .before .if1 .left, ← s .before .before .number-of .ensures) (c .before .before .put-plain .ensures)
+    let pre = s .before .before .before .before .before .pre in
+    rw (← pre .2, c .before .before .before .before .before .if1 .left, ← pre .1, ← s .number-of .ensures) (c .before .before .put-plain .ensures)
 
 pub put-call-spec : {M : Type 1} → statement M
 put-call-spec =
     tie.close
     (tie.spec
     digit-table-requires
-    field-requires
     number-of-requires
-    slice-aggregate-same
-    same-requires
     put-cast-requires
     put-plain-requires
     same-length

@@ -4,27 +4,27 @@ use mathlib.Core.Path.{_≡_, ap, sym, _∙_}
 use native.Mathlib.Omega.{arith}
 use borrow.Author.Needs.{needs}
 use lib.ListN.{length}
+use Rattle.buffers.proofs.FirstPlace.{place-le}
+use Rattle.fields.proofs.Tabs.{field-length}
 use Rattle.misspellings.specs.Misspellings.{lineFault}
 use Rattle.misspellings.proofs.Arguments.{restFault, all-arguments, no-more, wrong-here, right-here, length-behind, fault-most}
 use Rattle.misspellings.proofs.line_fault.Statement.{statement}
 use Rattle.misspellings.proofs.line_fault.Tie as tie
 
 abbrev Inv-loop : tie.InvT-loop
-Inv-loop line cast tab₀ typed₀ tab typed = (tab ≤ length line) × (lineFault cast line ≡ restFault typed tab line)
+Inv-loop line end cast tab₀ typed₀ tab typed = (tab ≤ length line) × (lineFault cast line ≡ restFault typed tab line)
 
 abbrev μ-loop : tie.MeasureT-loop
-μ-loop line cast tab₀ typed₀ tab typed = length line - tab
+μ-loop line end cast tab₀ typed₀ tab typed = length line - tab
 
 most-place : (c : tie.After-field-fault Inv-loop μ-loop) → c .field-fault .result .place ≤ 156
 most-place c = rw (c .field-fault .ensures) (fault-most (c .before .before .before .before .before .loop .typed) _)
 
-find-requires : tie.Need-find-requires Inv-loop μ-loop
-find-requires c κs = search needs
-
 loop-holds : tie.Need-loop-holds Inv-loop μ-loop
 loop-holds c =
-    let a = c .before .before .args in
-    (c .find .ensures .1, all-arguments (a .cast) (a .line .now) ∙ ap (λ (t : ℕ). restFault (a .cast) t (a .line .now)) (sym (c .find .ensures .0)))
+    let a = c .before .args in
+    let e = c .before .pre .1 ∙ field-length (a .line .now) in
+    (omega (arith, e, place-le 9 (a .line .now)), all-arguments (a .cast) (a .line .now) ∙ ap (λ (t : ℕ). restFault (a .cast) t (a .line .now)) (sym e))
 
 add-rest : tie.Need-add-rest Inv-loop μ-loop
 add-rest c = search needs
@@ -38,8 +38,8 @@ part-rest-start c = search needs
 part-rest-end : tie.Need-part-rest-end Inv-loop μ-loop
 part-rest-end c = search needs
 
-find-requires-2 : tie.Need-find-requires-2 Inv-loop μ-loop
-find-requires-2 c κs = search needs
+find-requires : tie.Need-find-requires Inv-loop μ-loop
+find-requires c κs = search needs
 
 sub-field-fault : tie.Need-sub-field-fault Inv-loop μ-loop
 sub-field-fault c = search needs
@@ -65,7 +65,7 @@ returns : tie.Need-returns Inv-loop μ-loop
 returns c =
     let f = c .before .before .before in
     let l = f .before .before .before .before .before .loop in
-    c .in-line .ensures ∙ sym (l .inv .1 ∙ wrong-here (f .before .before .before .before .before .before .before .before .args .line .now) (l .tab) (f .before .before .find2 .result) (l .typed) (f .field-fault .result) (search needs) (f .before .before .find2 .ensures .0) (f .field-fault .ensures) (c .before .if1 .taken))
+    c .in-line .ensures ∙ sym (l .inv .1 ∙ wrong-here (f .before .before .before .before .before .before .before .args .line .now) (l .tab) (f .before .before .find .result) (l .typed) (f .field-fault .result) (search needs) (f .before .before .find .ensures .0) (f .field-fault .ensures) (c .before .if1 .taken))
 
 add-tab : tie.Need-add-tab Inv-loop μ-loop
 add-tab c = search needs
@@ -79,9 +79,9 @@ loop-less c = search needs
 loop-again : tie.Need-loop-again Inv-loop μ-loop
 loop-again c =
     let f = c .before .before in
-    let line = f .before .before .before .before .before .before .before .before .args .line .now in
+    let line = f .before .before .before .before .before .before .before .args .line .now in
     let l = f .before .before .before .before .before .loop in
-    let n = f .before .before .find2 in
+    let n = f .before .before .find in
     (omega (arith, n .ensures .1, length-behind line (l .tab)), l .inv .1 ∙ right-here line (l .tab) (n .result) (l .typed) (f .field-fault .result) (search needs) (n .ensures .0) (f .field-fault .ensures) (c .if1 .left))
 
 misspelled-requires : tie.Need-misspelled-requires Inv-loop μ-loop
@@ -90,7 +90,7 @@ misspelled-requires c κs = search needs
 returns-2 : tie.Need-returns-2 Inv-loop μ-loop
 returns-2 c =
     let l = c .before .before .loop in
-    c .misspelled .ensures ∙ sym (l .inv .1 ∙ no-more (l .typed) (l .tab) (c .before .before .before .before .before .args .line .now) (omega arith))
+    c .misspelled .ensures ∙ sym (l .inv .1 ∙ no-more (l .typed) (l .tab) (c .before .before .before .before .args .line .now) (omega arith))
 
 pub line-fault-spec : {M : Type 1} → statement M
 line-fault-spec =
@@ -98,13 +98,12 @@ line-fault-spec =
     (tie.spec
     Inv-loop
     μ-loop
-    find-requires
     loop-holds
     add-rest
     sub-rest
     part-rest-start
     part-rest-end
-    find-requires-2
+    find-requires
     sub-field-fault
     part-field-fault-start
     part-field-fault-end
