@@ -21,7 +21,7 @@ fn digit_at(table: &[u8; 256], t: &[u8], i: usize) -> u64
 }
 
 // Whether four bytes from i on spell digits, all tested as one.
-fn four_digits(table: &[u8; 256], t: &[u8], i: usize) -> bool
+pub fn four_digits(table: &[u8; 256], t: &[u8], i: usize) -> bool
     requires { ⌜ DigitTable (now table) × (i + 4 ≤ length (now t)) ⌝ }
     ensures { λ r. ⌜ r ≡ digitsBelow 16 (take 4 (drop i (now (t .entry)))) ⌝ }
 {

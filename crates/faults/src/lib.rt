@@ -3,9 +3,10 @@ use spelling::Fault;
 use values::Scalar;
 ghost use mathlib.Core.Path.{_≡_};
 ghost use Prim.Native.Nat.{_+_, _^_, _≤_, _<_};
-ghost use lib.ListN.{length};
+ghost use mathlib.Core.Bool.{true};
+ghost use lib.ListN.{length, take, drop};
 ghost use Rattle.values.specs.Value.{kindAt};
-ghost use Rattle.spelling.specs.Hex.{digitBound};
+ghost use Rattle.spelling.specs.Hex.{digitBound, digitsBelow, DigitTable};
 ghost use Rattle.spelling.specs.Read.{faultNumber, lanesAt, readLanes, readValue};
 ghost use Rattle.faults.specs.Program.{faulty, faultOf, toldOf};
 
@@ -49,6 +50,18 @@ fn digit_bound(s: Scalar) -> u8
     }
 }
 
+// Whether four digits below b stand at i, where as many are due in the lane; of a bool's none are.
+fn four_at(table: &[u8; 256], s: &[u8], i: usize, due: usize, b: u8) -> bool
+    requires { ⌜ DigitTable (now table) × (i ≤ length (now s)) ⌝ }
+    ensures { λ r. ⌜ (r ≡ true → (4 ≤ due) × (i + 4 ≤ length (now (s .entry))) × (digitsBelow b (take 4 (drop i (now (s .entry)))) ≡ true)) ⌝ }
+{
+    if (4 <= due) & (b == 16) & (4 <= s.len() - i) {
+        digits::four_digits(table, s, i)
+    } else {
+        false
+    }
+}
+
 // What is wrong with n + 1 lanes, each of w digits below b; s starts at place p.
 fn lanes_fault(s: &[u8], p: usize, n: usize, w: usize, b: u8) -> Faulty
     requires { ⌜ p + length (now s) < 2 ^ 64 ⌝ }
@@ -59,6 +72,11 @@ fn lanes_fault(s: &[u8], p: usize, n: usize, w: usize, b: u8) -> Faulty
     let mut due = w;
     let mut i: usize = 0;
     while i < s.len() {
+        if four_at(&table, s, i, due, b) {
+            due -= 4;
+            i += 4;
+            continue;
+        }
         let x = s[i];
         if due == 0 {
             if x != b',' {

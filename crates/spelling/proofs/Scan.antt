@@ -53,12 +53,20 @@ digits-on b w n d p v (x ∷ xs) r t =
     let f : p + suc (length xs) ≡ p + 1 + length xs = omega arith in
     rw (e, f) (digit-step b w n (length xs + d) p v x (digitOf x) (xs ++ r) refl (ltb-true _ _ (h .0)) ∙ digits-on b w n d (p + 1) (v * 16 + digitOf x) xs r (h .1))
 
--- all digits of a lane, from i on
+-- k of those due, from i on
+pub digits-some : (b w n d p v : ℕ) (s : List ℕ) (i k : ℕ) → k ≤ d → i + k ≤ length s → digitsBelow b (take k (drop i s)) ≡ true
+    → lanesAt b w n d (p + i) v (drop i s) ≡ lanesAt b w n (d - k) (p + (i + k)) (number v (take k (drop i s))) (drop (i + k) s)
+digits-some b w n d p v s i k m h t =
+    let l : length (take k (drop i s)) ≡ k = length-take-le k (drop i s) (omega (arith, length-drop i s)) in
+    let e : k + (d - k) ≡ d = omega arith in
+    rw (← add-assoc p i k, ← drop-drop k i s) (rw (l, e, take-append-drop) at (digits-on b w n (d - k) (p + i) v (take k (drop i s)) (drop k (drop i s)) t))
+
+-- all digits of a lane
 pub digits-next : (b w n p : ℕ) (s : List ℕ) (i k : ℕ) → i + k ≤ length s → digitsBelow b (take k (drop i s)) ≡ true
     → lanesAt b w n k (p + i) 0 (drop i s) ≡ lanesAt b w n 0 (p + (i + k)) (number 0 (take k (drop i s))) (drop (i + k) s)
 digits-next b w n p s i k h t =
-    let l : length (take k (drop i s)) ≡ k = length-take-le k (drop i s) (omega (arith, length-drop i s)) in
-    rw (← add-assoc p i k, ← drop-drop k i s) (rw (l, add-zero, take-append-drop) at (digits-on b w n 0 (p + i) 0 (take k (drop i s)) (drop k (drop i s)) t))
+    let z : k - k ≡ 0 = omega arith in
+    rw z at (digits-some b w n k p 0 s i k (omega arith) h t)
 
 -- the end of the field
 drop-end : (s : List ℕ) (i : ℕ) → i ≡ length s → drop i s ≡ []

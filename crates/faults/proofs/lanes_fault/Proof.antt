@@ -8,7 +8,7 @@ use lib.ListN.{length, drop}
 use Rattle.spelling.specs.Read.{lanesAt}
 use Rattle.faults.specs.Program.{faultOf}
 use Rattle.faults.proofs.Told.{fault-before}
-use Rattle.spelling.proofs.Scan.{lane-long, lane-surplus, lane-next, digit-wrong, digit-next, lane-short, lanes-few, lanes-all}
+use Rattle.spelling.proofs.Scan.{lane-long, lane-surplus, lane-next, digit-wrong, digit-next, digits-some, lane-short, lanes-few, lanes-all}
 use Rattle.faults.proofs.lanes_fault.Statement.{statement}
 use Rattle.faults.proofs.lanes_fault.Tie as tie
 
@@ -25,6 +25,25 @@ digit-table-requires c κs = search needs
 loop-holds : tie.Need-loop-holds Inv-loop μ-loop
 loop-holds c = (search needs, (0, rw add-zero))
 
+four-at-requires : tie.Need-four-at-requires Inv-loop μ-loop
+four-at-requires c κs = search needs
+
+sub-due : tie.Need-sub-due Inv-loop μ-loop
+sub-due c = omega (arith, c .before .four-at .ensures (c .if1 .taken) .0)
+
+add-i : tie.Need-add-i Inv-loop μ-loop
+add-i c = search needs
+
+loop-less : tie.Need-loop-less Inv-loop μ-loop
+loop-less c = omega (arith, c .before .four-at .ensures (c .if1 .taken) .1)
+
+loop-again : tie.Need-loop-again Inv-loop μ-loop
+loop-again c =
+    let a = c .before .before .before .before .before .before .before .args in
+    let l = c .before .before .before .before .loop in
+    let f = c .before .four-at .ensures (c .if1 .taken) in
+    (f .1, (_, l .inv .1 .1 ∙ ap faultOf (digits-some (a .b) (a .w) (l .left) (l .due) (a .p) (l .inv .1 .0) (a .s .now) (l .i) 4 (f .0) (f .1) (f .2))))
+
 shared-slice-read-x : tie.Need-shared-slice-read-x Inv-loop μ-loop
 shared-slice-read-x c = search needs
 
@@ -36,9 +55,9 @@ fault-at-requires c κs = search needs
 
 returns : tie.Need-returns Inv-loop μ-loop
 returns c =
-    let a = c .before .before .before .before .before .before .before .before .args in
-    let l = c .before .before .before .before .before .loop in
-    c .fault-at .ensures ∙ sym (l .inv .1 .1 ∙ ap faultOf (lane-long (a .b) (a .w) (l .left) (l .due) (a .p) (l .inv .1 .0) (a .s .now) (l .i) (search needs) (c .before .before .if1 .taken) (c .before .if2 .taken)))
+    let a = c .before .before .before .before .before .before .before .before .before .before .before .args in
+    let l = c .before .before .before .before .before .before .before .before .loop in
+    c .fault-at .ensures ∙ sym (l .inv .1 .1 ∙ ap faultOf (lane-long (a .b) (a .w) (l .left) (l .due) (a .p) (l .inv .1 .0) (a .s .now) (l .i) (search needs) (c .before .before .if2 .taken) (c .before .if3 .taken)))
 
 add-fault-at-2 : tie.Need-add-fault-at-2 Inv-loop μ-loop
 add-fault-at-2 c = search needs
@@ -48,24 +67,24 @@ fault-at-requires-2 c κs = search needs
 
 returns-2 : tie.Need-returns-2 Inv-loop μ-loop
 returns-2 c =
-    let a = c .before .before .before .before .before .before .before .before .before .args in
-    let l = c .before .before .before .before .before .before .loop in
-    c .fault-at2 .ensures ∙ sym (l .inv .1 .1 ∙ ap faultOf (lane-surplus (a .b) (a .w) (l .left) (l .due) (a .p) (l .inv .1 .0) (a .s .now) (l .i) (search needs) (c .before .before .before .if1 .taken) (c .before .before .if2 .left) (c .before .if3 .taken)))
+    let a = c .before .before .before .before .before .before .before .before .before .before .before .before .args in
+    let l = c .before .before .before .before .before .before .before .before .before .loop in
+    c .fault-at2 .ensures ∙ sym (l .inv .1 .1 ∙ ap faultOf (lane-surplus (a .b) (a .w) (l .left) (l .due) (a .p) (l .inv .1 .0) (a .s .now) (l .i) (search needs) (c .before .before .before .if2 .taken) (c .before .before .if3 .left) (c .before .if4 .taken)))
 
 sub-left : tie.Need-sub-left Inv-loop μ-loop
 sub-left c = search needs
 
-add-i : tie.Need-add-i Inv-loop μ-loop
-add-i c = search needs
+add-i-2 : tie.Need-add-i-2 Inv-loop μ-loop
+add-i-2 c = search needs
 
-loop-less : tie.Need-loop-less Inv-loop μ-loop
-loop-less c = search needs
+loop-less-2 : tie.Need-loop-less-2 Inv-loop μ-loop
+loop-less-2 c = search needs
 
-loop-again : tie.Need-loop-again Inv-loop μ-loop
-loop-again c =
-    let a = c .before .before .before .before .before .before .before .before .args in
-    let l = c .before .before .before .before .before .loop in
-    (search needs, (0, l .inv .1 .1 ∙ ap faultOf (lane-next (a .b) (a .w) (l .left) (l .due) (a .p) (l .inv .1 .0) (a .s .now) (l .i) (search needs) (c .before .before .if1 .taken) (c .before .if2 .left) (c .if3 .left)) ∙ fault-before (l .inv .1 .0) (lanesAt (a .b) (a .w) (l .left - 1) (a .w) (a .p + (l .i + 1)) 0 (drop (l .i + 1) (a .s .now)))))
+loop-again-2 : tie.Need-loop-again-2 Inv-loop μ-loop
+loop-again-2 c =
+    let a = c .before .before .before .before .before .before .before .before .before .before .before .args in
+    let l = c .before .before .before .before .before .before .before .before .loop in
+    (search needs, (0, l .inv .1 .1 ∙ ap faultOf (lane-next (a .b) (a .w) (l .left) (l .due) (a .p) (l .inv .1 .0) (a .s .now) (l .i) (search needs) (c .before .before .if2 .taken) (c .before .if3 .left) (c .if4 .left)) ∙ fault-before (l .inv .1 .0) (lanesAt (a .b) (a .w) (l .left - 1) (a .w) (a .p + (l .i + 1)) 0 (drop (l .i + 1) (a .s .now)))))
 
 digit-requires : tie.Need-digit-requires Inv-loop μ-loop
 digit-requires c κs = search needs
@@ -78,24 +97,24 @@ fault-at-requires-3 c κs = search needs
 
 returns-3 : tie.Need-returns-3 Inv-loop μ-loop
 returns-3 c =
-    let a = c .before .before .before .before .before .before .before .before .before .before .args in
-    let l = c .before .before .before .before .before .before .before .loop in
-    c .fault-at3 .ensures ∙ sym (l .inv .1 .1 ∙ ap faultOf (digit-wrong (a .b) (a .w) (l .left) (l .due) (a .p) (l .inv .1 .0) (a .s .now) (l .i) (search needs) (c .before .before .before .before .if1 .left) (omega arith)))
+    let a = c .before .before .before .before .before .before .before .before .before .before .before .before .before .args in
+    let l = c .before .before .before .before .before .before .before .before .before .before .loop in
+    c .fault-at3 .ensures ∙ sym (l .inv .1 .1 ∙ ap faultOf (digit-wrong (a .b) (a .w) (l .left) (l .due) (a .p) (l .inv .1 .0) (a .s .now) (l .i) (search needs) (c .before .before .before .before .if2 .left) (omega arith)))
 
-sub-due : tie.Need-sub-due Inv-loop μ-loop
-sub-due c = search needs
+sub-due-2 : tie.Need-sub-due-2 Inv-loop μ-loop
+sub-due-2 c = search needs
 
-add-i-2 : tie.Need-add-i-2 Inv-loop μ-loop
-add-i-2 c = search needs
+add-i-3 : tie.Need-add-i-3 Inv-loop μ-loop
+add-i-3 c = search needs
 
-loop-less-2 : tie.Need-loop-less-2 Inv-loop μ-loop
-loop-less-2 c = search needs
+loop-less-3 : tie.Need-loop-less-3 Inv-loop μ-loop
+loop-less-3 c = search needs
 
-loop-again-2 : tie.Need-loop-again-2 Inv-loop μ-loop
-loop-again-2 c =
-    let a = c .before .before .before .before .before .before .before .before .before .args in
-    let l = c .before .before .before .before .before .before .loop in
-    (search needs, (_, l .inv .1 .1 ∙ ap faultOf (digit-next (a .b) (a .w) (l .left) (l .due) (a .p) (l .inv .1 .0) (a .s .now) (l .i) (search needs) (c .before .before .before .if1 .left) (c .before .digit .result) (c .before .digit .ensures .0) (omega arith))))
+loop-again-3 : tie.Need-loop-again-3 Inv-loop μ-loop
+loop-again-3 c =
+    let a = c .before .before .before .before .before .before .before .before .before .before .before .before .args in
+    let l = c .before .before .before .before .before .before .before .before .before .loop in
+    (search needs, (_, l .inv .1 .1 ∙ ap faultOf (digit-next (a .b) (a .w) (l .left) (l .due) (a .p) (l .inv .1 .0) (a .s .now) (l .i) (search needs) (c .before .before .before .if2 .left) (c .before .digit .result) (c .before .digit .ensures .0) (omega arith))))
 
 add-fault-at-4 : tie.Need-add-fault-at-4 Inv-loop μ-loop
 add-fault-at-4 c = search needs
@@ -138,6 +157,11 @@ lanes-fault-spec =
     μ-loop
     digit-table-requires
     loop-holds
+    four-at-requires
+    sub-due
+    add-i
+    loop-less
+    loop-again
     shared-slice-read-x
     add-fault-at
     fault-at-requires
@@ -146,17 +170,17 @@ lanes-fault-spec =
     fault-at-requires-2
     returns-2
     sub-left
-    add-i
-    loop-less
-    loop-again
+    add-i-2
+    loop-less-2
+    loop-again-2
     digit-requires
     add-fault-at-3
     fault-at-requires-3
     returns-3
-    sub-due
-    add-i-2
-    loop-less-2
-    loop-again-2
+    sub-due-2
+    add-i-3
+    loop-less-3
+    loop-again-3
     add-fault-at-4
     fault-at-requires-4
     returns-4
