@@ -18,7 +18,7 @@ use Rattle.spelling.proofs.ReadsBack.{Fit, Fits, none, more}
 use Rattle.spelling.proofs.Texts.{length-hex}
 use Rattle.digits.specs.Program.{laneFrom, laneAfter, lanesFrom}
 use Rattle.digits.proofs.Numbers.{hex-below, hex-number}
-use Rattle.spelling.proofs.Scan.{lane-next, digits-next, lanes-all}
+use Rattle.spelling.proofs.Scan.{lane-next, digits-next, lanes-end}
 
 -- ---- turns
 
@@ -104,7 +104,7 @@ module _ (b w p : ℕ) (s : List ℕ) where
   -- after a lane come the others, up to the end
   others : (n i v : ℕ) → length s ≡ i + n * (w + 1) → length (lanesFrom b w 44 n s i) ≡ n → lanesAt b w n 0 (p + i) v (drop i s) ≡ good (v ∷ lanesFrom b w 44 n s i)
   unfolding lanesFrom
-  others zero i v room all = lanes-all b w 0 0 p v s i (omega arith) refl refl
+  others zero i v room all = lanes-end b w 0 0 p v s i (omega arith)
   others (suc n) i v room all =
       let z : suc n - 1 ≡ n = omega arith in
       lane-next b w (suc n) 0 p v s i (inside 44 i n room all) refl (stands 44 i n room all) (λ k. omega arith)

@@ -7,7 +7,7 @@ ghost use mathlib.Core.Bool.{true};
 ghost use lib.ListN.{length, take, drop};
 ghost use Rattle.values.specs.Value.{kindAt};
 ghost use Rattle.spelling.specs.Hex.{digitBound, digitsBelow, DigitTable};
-ghost use Rattle.spelling.specs.Read.{faultNumber, lanesAt, readLanes, readValue};
+ghost use Rattle.spelling.specs.Read.{faultNumber, atEnd, lanesAt, readLanes, readValue};
 ghost use Rattle.faults.specs.Program.{faulty, faultOf, toldOf};
 
 // What is wrong with a spelling, and at which place from 1.
@@ -62,6 +62,19 @@ fn four_at(table: &[u8; 256], s: &[u8], i: usize, due: usize, b: u8) -> bool
     }
 }
 
+// What is wrong where the text ends, at the place p: with so many lanes and so many digits of a lane still due.
+fn end_fault(left: usize, due: usize, p: usize) -> Faulty
+    ensures { λ r. ⌜ r ≡ faultOf (atEnd left due p 0) ⌝ }
+{
+    if due > 0 {
+        return fault_at(Fault::Digit, p);
+    }
+    if left > 0 {
+        return fault_at(Fault::Lanes, p);
+    }
+    fault_at(Fault::Nothing, 0)
+}
+
 // What is wrong with n + 1 lanes, each of w digits below b; s starts at place p.
 fn lanes_fault(s: &[u8], p: usize, n: usize, w: usize, b: u8) -> Faulty
     requires { ⌜ p + length (now s) < 2 ^ 64 ⌝ }
@@ -96,13 +109,7 @@ fn lanes_fault(s: &[u8], p: usize, n: usize, w: usize, b: u8) -> Faulty
         due -= 1;
         i += 1;
     }
-    if due > 0 {
-        return fault_at(Fault::Digit, p + i);
-    }
-    if left > 0 {
-        return fault_at(Fault::Lanes, p + i);
-    }
-    fault_at(Fault::Nothing, 0)
+    end_fault(left, due, p + i)
 }
 
 // What is wrong with the lanes of a value of the type at k; s starts at place p.

@@ -16,7 +16,7 @@ use Rattle.values.specs.declared.Scalar.{Scalar}
 use Rattle.values.specs.declared.Kind.{Kind}
 use Rattle.spelling.specs.declared.Reading.{Reading}
 use Rattle.spelling.specs.Hex.{digitCount, digitBound, digitOf, digitsBelow, number}
-use Rattle.spelling.specs.Read.{digitAt, countAt, good, before, lanesAt, reading, readLanes}
+use Rattle.spelling.specs.Read.{digitAt, countAt, before, atEnd, lanesAt, reading, readLanes}
 use Rattle.spelling.proofs.ReadsBack.{digit-step}
 
 -- one byte of the lanes
@@ -69,21 +69,9 @@ digits-next b w n p s i k h t =
     rw z at (digits-some b w n k p 0 s i k (omega arith) h t)
 
 -- the end of the field
-drop-end : (s : List ℕ) (i : ℕ) → i ≡ length s → drop i s ≡ []
-drop-end s i q = rw (q, drop-length)
-
-module _ (b w n d p v : ℕ) (s : List ℕ) (i : ℕ) (q : i ≡ length s) where
-  pub lane-short : (d ≡ 0 → ⊥) → lanesAt b w n d (p + i) v (drop i s) ≡ digitAt (p + i)
-  unfolding lanesAt
-  lane-short e = rw (drop-end s i q, ne-eqb _ _ e)
-
-  pub lanes-few : d ≡ 0 → (n ≡ 0 → ⊥) → lanesAt b w n d (p + i) v (drop i s) ≡ countAt (p + i)
-  unfolding lanesAt
-  lanes-few e f = rw (drop-end s i q, eq-eqb _ _ e, ne-eqb _ _ f)
-
-  pub lanes-all : d ≡ 0 → n ≡ 0 → lanesAt b w n d (p + i) v (drop i s) ≡ good (v ∷ [])
-  unfolding lanesAt
-  lanes-all e f = rw (drop-end s i q, eq-eqb _ _ e, eq-eqb _ _ f)
+pub lanes-end : (b w n d p v : ℕ) (s : List ℕ) (i : ℕ) → i ≡ length s → lanesAt b w n d (p + i) v (drop i s) ≡ atEnd n d (p + i) v
+unfolding lanesAt
+lanes-end b w n d p v s i q = let none : drop i s ≡ [] = rw (q, drop-length) in rw none
 
 -- the lanes of a type, by its parts as the code has them
 pub lanes-of : (k : Kind) (p : ℕ) (s : List ℕ) {n w b : ℕ} {t : Scalar} {r : Reading} → n ≡ laneCount k → t ≡ scalarOf k → w ≡ digitCount t → b ≡ digitBound t

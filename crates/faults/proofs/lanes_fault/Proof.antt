@@ -7,8 +7,8 @@ use borrow.Author.Needs.{needs}
 use lib.ListN.{length, drop}
 use Rattle.spelling.specs.Read.{lanesAt}
 use Rattle.faults.specs.Program.{faultOf}
-use Rattle.faults.proofs.Told.{fault-before}
-use Rattle.spelling.proofs.Scan.{lane-long, lane-surplus, lane-next, digit-wrong, digit-next, digits-some, lane-short, lanes-few, lanes-all}
+use Rattle.faults.proofs.Told.{fault-before, fault-end}
+use Rattle.spelling.proofs.Scan.{lane-long, lane-surplus, lane-next, digit-wrong, digit-next, digits-some, lanes-end}
 use Rattle.faults.proofs.lanes_fault.Statement.{statement}
 use Rattle.faults.proofs.lanes_fault.Tie as tie
 
@@ -116,38 +116,18 @@ loop-again-3 c =
     let l = c .before .before .before .before .before .before .before .before .before .loop in
     (search needs, (_, l .inv .1 .1 ∙ ap faultOf (digit-next (a .b) (a .w) (l .left) (l .due) (a .p) (l .inv .1 .0) (a .s .now) (l .i) (search needs) (c .before .before .before .if2 .left) (c .before .digit .result) (c .before .digit .ensures .0) (omega arith))))
 
-add-fault-at-4 : tie.Need-add-fault-at-4 Inv-loop μ-loop
-add-fault-at-4 c = search needs
+add-end-fault : tie.Need-add-end-fault Inv-loop μ-loop
+add-end-fault c = search needs
 
-fault-at-requires-4 : tie.Need-fault-at-requires-4 Inv-loop μ-loop
-fault-at-requires-4 c κs = search needs
+end-fault-requires : tie.Need-end-fault-requires Inv-loop μ-loop
+end-fault-requires c κs = search needs
 
 returns-4 : tie.Need-returns-4 Inv-loop μ-loop
 returns-4 c =
-    let a = c .before .before .before .before .before .before .args in
-    let l = c .before .before .before .loop in
-    c .fault-at4 .ensures ∙ sym (l .inv .1 .1 ∙ ap faultOf (lane-short (a .b) (a .w) (l .left) (l .due) (a .p) (l .inv .1 .0) (a .s .now) (l .i) (omega arith) (omega arith)))
-
-add-fault-at-5 : tie.Need-add-fault-at-5 Inv-loop μ-loop
-add-fault-at-5 c = search needs
-
-fault-at-requires-5 : tie.Need-fault-at-requires-5 Inv-loop μ-loop
-fault-at-requires-5 c κs = search needs
-
-returns-5 : tie.Need-returns-5 Inv-loop μ-loop
-returns-5 c =
-    let a = c .before .before .before .before .before .before .before .args in
-    let l = c .before .before .before .before .loop in
-    c .fault-at5 .ensures ∙ sym (l .inv .1 .1 ∙ ap faultOf (lanes-few (a .b) (a .w) (l .left) (l .due) (a .p) (l .inv .1 .0) (a .s .now) (l .i) (omega arith) (omega arith) (omega arith)))
-
-fault-at-requires-6 : tie.Need-fault-at-requires-6 Inv-loop μ-loop
-fault-at-requires-6 c κs = search needs
-
-returns-6 : tie.Need-returns-6 Inv-loop μ-loop
-returns-6 c =
-    let a = c .before .before .before .before .before .before .before .args in
-    let l = c .before .before .before .before .loop in
-    c .fault-at6 .ensures ∙ sym (l .inv .1 .1 ∙ ap faultOf (lanes-all (a .b) (a .w) (l .left) (l .due) (a .p) (l .inv .1 .0) (a .s .now) (l .i) (omega arith) (omega arith) (omega arith)))
+    let a = c .before .before .before .before .before .args in
+    let l = c .before .before .loop in
+    c .end-fault .ensures
+    ∙ sym (l .inv .1 .1 ∙ ap faultOf (lanes-end (a .b) (a .w) (l .left) (l .due) (a .p) (l .inv .1 .0) (a .s .now) (l .i) (omega arith)) ∙ fault-end (l .left) (l .due) (a .p + l .i) (l .inv .1 .0))
 
 pub lanes-fault-spec : {M : Type 1} → statement M
 lanes-fault-spec =
@@ -181,11 +161,6 @@ lanes-fault-spec =
     add-i-3
     loop-less-3
     loop-again-3
-    add-fault-at-4
-    fault-at-requires-4
-    returns-4
-    add-fault-at-5
-    fault-at-requires-5
-    returns-5
-    fault-at-requires-6
-    returns-6)
+    add-end-fault
+    end-fault-requires
+    returns-4)
