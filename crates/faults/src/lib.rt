@@ -1,4 +1,4 @@
-// The fault of a spelling, worked out byte by byte once there is one.
+// The fault of a spelling, worked out once there is one.
 use spelling::Fault;
 use values::Scalar;
 ghost use mathlib.Core.Path.{_≡_};
@@ -50,7 +50,7 @@ fn digit_bound(s: Scalar) -> u8
     }
 }
 
-// Whether four digits below b stand at i, where as many are due in the lane; of a bool's none are.
+// Whether four digits below b stand at i, where as many are due in the lane; a bool's lane has fewer.
 fn four_at(table: &[u8; 256], s: &[u8], i: usize, due: usize, b: u8) -> bool
     requires { ⌜ DigitTable (now table) × (i ≤ length (now s)) ⌝ }
     ensures { λ r. ⌜ (r ≡ true → (4 ≤ due) × (i + 4 ≤ length (now (s .entry))) × (digitsBelow b (take 4 (drop i (now (s .entry)))) ≡ true)) ⌝ }
@@ -75,7 +75,7 @@ fn end_fault(left: usize, due: usize, p: usize) -> Faulty
     fault_at(Fault::Nothing, 0)
 }
 
-// What is wrong with n + 1 lanes, each of w digits below b; s starts at place p.
+// What is wrong with n + 1 lanes, each of w digits below b; s starts at place p. Digits are passed by fours, and else byte by byte.
 fn lanes_fault(s: &[u8], p: usize, n: usize, w: usize, b: u8) -> Faulty
     requires { ⌜ p + length (now s) < 2 ^ 64 ⌝ }
     ensures { λ r. ⌜ r ≡ faultOf (lanesAt b w n w p 0 (now (s .entry))) ⌝ }
