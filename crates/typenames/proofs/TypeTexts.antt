@@ -22,7 +22,7 @@ use Rattle.spelling.specs.Types.{spelled, kindOf}
 use Rattle.places.proofs.Tables.{own-place, typed}
 use Rattle.spelling.proofs.Spellings.{none-or-spelled, kind-spelled}
 use Rattle.values.proofs.Tested.{below, below-at}
-use Rattle.typenames.specs.Program.{scalarBy, scalarWidth, sizeBy, vectorTests, vectorBy, vectorFrom, matrixTests, matrixBy, matrixFrom, typeFrom}
+use Rattle.typenames.specs.Program.{firstBytes, scalarBy, scalarWidth, sizeBy, vectorTests, vectorBy, vectorFrom, matrixTests, matrixBy, matrixFrom, typeFrom}
 
 -- ---- complete
 
@@ -105,6 +105,18 @@ vector-below t n p hn hp = omega (arith, most (vectorTests t n p) (5 * n + p))
 
 pub matrix-below : (t : List ℕ) (c r p : ℕ) → c ≤ 3 → r ≤ 3 → p ≤ 5 → matrixBy t c r p < 39
 matrix-below t c r p hc hr hp = omega (arith, most (matrixTests t c r p) (17 + cond (eqb p 5) 9 0 + 3 * c + r), most (eqb p 5) 9)
+
+-- the eleventh byte is the last that is looked at
+behind : (t : List ℕ) (p : ℕ) → getD (firstBytes t) (scalarWidth p + 5) 0 ≡ getD t (scalarWidth p + 5) 0
+behind t p = by (eqb p 1)
+  where
+    by : (four : Bool) → getD (firstBytes t) (cond four 4 3 + 5) 0 ≡ getD t (cond four 4 3 + 5) 0
+    by true = refl
+    by false = refl
+
+pub by-first-bytes : (t : List ℕ) → typeFrom (firstBytes t) ≡ typeFrom t
+unfolding typeFrom
+by-first-bytes t = rw (behind t (scalarBy (getD t 5 0) (getD t 6 0) (getD t 7 0) (getD t 8 0)))
 
 scalar-width : (p : ℕ) → 0 < p → p ≤ 5 → length (spelled (kindAt p)) ≡ scalarWidth p
 unfolding kindAt below

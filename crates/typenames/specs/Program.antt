@@ -1,10 +1,15 @@
 -- How the program finds the type that a text starts with, by its bytes; what stands past the end of a text is 0, which no spelling has. Program-shaped: no statement of what is read rests on this. Definitions only.
 use Prim.Native.Nat.{ℕ, _+_, _*_}
 use mathlib.Core.Bool.{Bool, not, cond, _&&_}
-use mathlib.Core.List.{List}
+use mathlib.Core.List.{List, [], _∷_}
 use lib.Dec.{eqb, ltb}
 use lib.ListN.{getD}
 use Rattle.buffers.specs.Text.{byte}
+
+-- its first eleven bytes: no type's spelling is longer
+abbrev pub firstBytes : List ℕ → List ℕ
+firstBytes t =
+    getD t 0 0 ∷ getD t 1 0 ∷ getD t 2 0 ∷ getD t 3 0 ∷ getD t 4 0 ∷ getD t 5 0 ∷ getD t 6 0 ∷ getD t 7 0 ∷ getD t 8 0 ∷ getD t 9 0 ∷ getD t 10 0 ∷ []
 
 -- the place of the scalar that four bytes spell, or the first three, 0 of none
 unfoldable pub scalarBy : ℕ → ℕ → ℕ → ℕ → ℕ
