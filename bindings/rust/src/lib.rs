@@ -2,13 +2,16 @@
 //! are proved to meet their statements. What each builtin takes and gives is document 01 of that repository.
 //!
 //! ```
-//! use chanrelout::{fold, fold_line, sort_listing, Builtin, Refusal, Value};
+//! use chanrelout::{fold, fold_line, sort_listing, Builtin, Loss, Refusal, Value};
 //!
 //! let colour = Value::from([1.0f32, 0.5, 0.0, -1.0]);
 //! let packed = fold(Builtin::Pack4x8unorm, &[colour])?.first;
 //! assert_eq!(packed, Value::from(0x0000_80FFu32));
 //! assert_eq!(packed.to_string(), "u32:000080FF");
 //! assert_eq!("u32:000080FG".parse::<Value>().map_err(|wrong| wrong.place), Err(12));
+//!
+//! // A number that is too large for a half becomes infinite, and the answer says so.
+//! assert_eq!(fold(Builtin::Pack2x16float, &[Value::from([0.5f32, 70000.0])])?.loss, Loss::Overflowed);
 //!
 //! assert_eq!(fold(Builtin::Min, &[Value::from(1), Value::from(1.0f32)]), Err(Refusal::TypesDiffer));
 //! assert_eq!(fold_line(b"frexp\tf32:00000001")?, "f32:3F000000\ti32:FFFFFF6C");
