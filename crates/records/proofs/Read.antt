@@ -7,7 +7,7 @@ use mathlib.Core.Path.{_≡_, refl, ap, sym, _∙_}
 use native.Mathlib.Omega.{arith}
 use borrow.Author.Tests.{eqb-true}
 use lib.Dec.{eqb}
-use lib.ListN.{length, replicate, getD}
+use lib.ListN.{replicate, getD}
 use Rattle.values.specs.declared.Value.{Value}
 use Rattle.values.specs.Value.{kindAt, emptyValue}
 use Rattle.values.proofs.Bools.{either}

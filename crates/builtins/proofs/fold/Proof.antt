@@ -2,14 +2,14 @@
 use Prim.Native.Nat.{_≤_}
 use mathlib.Core.Bool.{Bool, false, true, _&&_, and-true, false≢true}
 use mathlib.Core.Logic.{inl, inr}
-use mathlib.Core.Path.{_≡_, refl, ap, sym, _∙_}
+use mathlib.Core.Path.{_≡_, refl, sym, _∙_}
 use native.Mathlib.Omega.{arith}
 use lib.Dec.{eqb}
 use lib.ListN.{length}
 use borrow.Author.Tests.{eqb-false, eq-eqb, not-true, not-false}
 use Rattle.values.specs.declared.Value.{Value}
 use Rattle.values.specs.Value.{place, wellFormed}
-use Rattle.values.proofs.Bools.{both, either}
+use Rattle.values.proofs.Bools.{either}
 use Rattle.values.proofs.Formed.{is-type}
 use Rattle.words.specs.Words.{valueAt}
 use Rattle.places.proofs.Tables.{typed}

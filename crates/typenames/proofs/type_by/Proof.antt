@@ -1,5 +1,4 @@
 -- One answer for each first byte. Assumes nothing.
-use mathlib.Core.Path.{sym, _∙_}
 use native.Mathlib.Omega.{arith}
 use borrow.Author.Tests.{eq-eqb, ne-eqb}
 use Rattle.typenames.specs.Program.{typeFrom}
