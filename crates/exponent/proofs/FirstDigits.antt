@@ -9,9 +9,10 @@ use lib.Pow.{pow-pos, pow-mono, pow-add}
 use lib.Ieee.{size}
 use lib.Ieee.Digits.{size-lt, size-le, size-reaches}
 use Rattle.half.specs.Format.{Format, hidden, lowest, units, pattern}
+use Rattle.half.specs.Program.{format}
 use Rattle.half.proofs.Closest.{split}
 use Rattle.half.proofs.Sizes.{pattern-is, units-small, units-full}
-use Rattle.exponent.specs.Leads.{format, Leads}
+use Rattle.exponent.specs.Leads.{Leads}
 
 -- u is at least half of 2 ^ s, and below it
 pub size-at : (u s : ℕ) → u < 2 ^ s → 2 ^ s ≤ 2 * u → size u ≡ s

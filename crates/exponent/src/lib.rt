@@ -1,26 +1,15 @@
 // Lanes of frexp and ldexp, over 32 bits: f32 and i32 lanes as their bits, f16 lanes in the low 16. By integers alone.
+use half::choose;
+use half::power;
 use values::Scalar;
 ghost use mathlib.Core.Path.{_≡_};
-ghost use mathlib.Core.Bool.{cond};
 ghost use Prim.Native.Nat.{_+_, _*_, _^_, _≤_, _<_};
 ghost use lib.Ieee.{up, down};
 ghost use Rattle.half.specs.Format.{f32, units, magnitudeOf};
+ghost use Rattle.half.specs.Program.{format};
 ghost use Rattle.values.specs.Program.{four, four2};
 ghost use Rattle.exponent.specs.Exponent.{fraction, exponent, fractionLane, exponentLane, integer, ldexpLane};
-ghost use Rattle.exponent.specs.Leads.{format, Leads};
-
-fn choose(on: bool, a: u32, b: u32) -> u32
-    ensures { λ r. ⌜ r ≡ cond on a b ⌝ }
-{
-    if on { a } else { b }
-}
-
-fn power(n: u32) -> u32
-    requires { ⌜ n < 32 ⌝ }
-    ensures { λ r. ⌜ r ≡ 2 ^ n ⌝ }
-{
-    1u32 << n
-}
+ghost use Rattle.exponent.specs.Leads.{Leads};
 
 struct Digits {
     first: u32,

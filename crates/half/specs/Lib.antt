@@ -1,3 +1,4 @@
 pub mod Format
 pub mod Convert
 pub mod Nearest
+pub mod Program

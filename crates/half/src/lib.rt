@@ -1,11 +1,24 @@
 // From an f32's bit pattern to a half's and back, by integers alone.
 ghost use mathlib.Core.Path.{_≡_};
 ghost use mathlib.Core.Bool.{cond};
-ghost use Prim.Native.Nat.{_+_, _-_, _/_, _%_, _≤_, _<_};
+ghost use Prim.Native.Nat.{_+_, _-_, _/_, _%_, _^_, _≤_, _<_};
 ghost use lib.Dec.{ltb};
 ghost use lib.Ieee.Nearest.{closest};
 ghost use Rattle.half.specs.Format.{f16, f32};
 ghost use Rattle.half.specs.Convert.{convertedMagnitude, halfOf, singleOf};
+
+pub fn choose(on: bool, a: u32, b: u32) -> u32
+    ensures { λ r. ⌜ r ≡ cond on a b ⌝ }
+{
+    if on { a } else { b }
+}
+
+pub fn power(n: u32) -> u32
+    requires { ⌜ n < 32 ⌝ }
+    ensures { λ r. ⌜ r ≡ 2 ^ n ⌝ }
+{
+    1u32 << n
+}
 
 // t / d to the nearest whole number, a tie to the even one: an odd quotient goes up from the tie on, an even one past it.
 pub fn nearest_div(t: u32, d: u32) -> u32
@@ -63,12 +76,6 @@ pub fn f32_to_f16(n: u32) -> u16
     (n / 0x8000_0000 * 0x8000 + half_magnitude(m)) as u16
 }
 
-fn choose(on: bool, a: u32, b: u32) -> u32
-    ensures { λ r. ⌜ r ≡ cond on a b ⌝ }
-{
-    if on { a } else { b }
-}
-
 // A normal half's digits move up by 13 and its exponent's field by 112.
 fn normal_magnitude(m: u32) -> u32
     requires { ⌜ m < 0x8000 ⌝ }
@@ -105,4 +112,11 @@ pub fn f16_to_f32(h: u16) -> u32
         return sign + normal_magnitude(m);
     }
     choose(m > 0x7c00, 0x7fc0_0000, sign + other_magnitude(m))
+}
+
+// The f32 of a half in the low 16 bits. A greater number has the sign and its low 15 bits, as the definition has it.
+pub fn single_of(x: u32) -> u32
+    ensures { λ r. ⌜ r ≡ singleOf x ⌝ }
+{
+    f16_to_f32((choose(0x8000 <= x, 0x8000, 0) + x % 0x8000) as u16)
 }

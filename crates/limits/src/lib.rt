@@ -1,8 +1,9 @@
 // min, max, clamp, saturate and step. A lane that goes by numbers is chosen by a test; an f32 lane is compared as the float that it stands for.
+use half::choose;
+use half::single_of;
 use values::Scalar;
 ghost use mathlib.Core.Path.{_≡_};
 ghost use lib.Ieee.{binary32, ofBits, le};
-ghost use Rattle.half.specs.Convert.{singleOf};
 ghost use Rattle.values.specs.Program.{four, four2, four3};
 ghost use Rattle.limits.specs.Limits.{above, maxLane, minLane, clampLane, saturateLane, stepLane};
 ghost use Rattle.limits.specs.Program.{belowOf, otherFloat, otherOf};
@@ -54,8 +55,8 @@ fn other(s: Scalar, second: bool, x: u32, y: u32) -> u32
 {
     match s {
         Scalar::Boolean => x,
-        Scalar::I32 => numeric::choose(second, y, x),
-        Scalar::U32 => numeric::choose(second, y, x),
+        Scalar::I32 => choose(second, y, x),
+        Scalar::U32 => choose(second, y, x),
         Scalar::F32 => other_f32(second, x, y),
         Scalar::F16 => x,
     }
@@ -139,23 +140,16 @@ fn at_most(x: u32, y: u32) -> bool
     floats::f32_of(x) <= floats::f32_of(y)
 }
 
-// The f32 of a half in the low 16 bits. A greater number has the sign and its low 15 bits, as the definition has it.
-fn single_of(x: u32) -> u32
-    ensures { λ r. ⌜ r ≡ singleOf x ⌝ }
-{
-    half::f16_to_f32((numeric::choose(0x8000 <= x, 0x8000, 0) + x % 0x8000) as u16)
-}
-
 fn step_f32(edge: u32, x: u32) -> u32
     ensures { λ r. ⌜ r ≡ stepLane Scalar.F32 edge x ⌝ }
 {
-    numeric::choose(at_most(edge, x), 0x3f80_0000, 0)
+    choose(at_most(edge, x), 0x3f80_0000, 0)
 }
 
 fn step_f16(edge: u32, x: u32) -> u32
     ensures { λ r. ⌜ r ≡ stepLane Scalar.F16 edge x ⌝ }
 {
-    numeric::choose(at_most(single_of(edge), single_of(x)), 0x3c00, 0)
+    choose(at_most(single_of(edge), single_of(x)), 0x3c00, 0)
 }
 
 pub fn step_lane(s: Scalar, edge: u32, x: u32) -> u32

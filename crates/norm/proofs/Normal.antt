@@ -18,7 +18,8 @@ use Rattle.half.proofs.Closest.{split}
 use Rattle.norm.specs.Norm.{scale, depth, one, half, least, clamped, stepped, minus, floorCode, packedNorm, normalCode}
 use Rattle.norm.proofs.Widths.{scale-below, scale-most, twice}
 use Rattle.norm.proofs.Fractions as fractions
-use Rattle.norm.proofs.Fractions.{unit, within, signed, mul-value, add-value}
+use Rattle.floats.proofs.Sums.{add-value}
+use Rattle.norm.proofs.Fractions.{unit, within, signed, mul-value}
 use Rattle.norm.proofs.Codes.{size-most}
 use Rattle.norm.proofs.Steps.{whole, half-value}
 

@@ -3,9 +3,8 @@ use mathlib.Core.Path.{_≡_, refl, sym, ap, _∙_}
 use Prim.Native.Nat.{ℕ, zero, suc, _+_, _-_, _*_, _/_, _%_, _^_, compare}
 use mathlib.Core.Bool.{Bool, true, false, not, cond}
 use lib.Dec.{ltb}
-use lib.Ieee.{Float, nan, inf, fin, Format, prec, emax, low, size, nearest, odd, units, round, neg}
+use lib.Ieee.{inf, Format, prec, emax, low, size, nearest, odd, units, round, neg}
 use lib.Ieee.Fits.{round-is}
-use lib.Ieee.Exact.{HasValue}
 
 odd-neg : (d : ℕ) (s : Bool) (q k l : ℕ) → odd d (not s) q k l ≡ neg (odd d s q k l)
 unfolding odd neg
@@ -26,9 +25,3 @@ round-neg f s a b =
     let k = size (n / b) - prec f in
     let u = b * 2 ^ k in
     round-is f (not s) a b ∙ units-neg f s (nearest (n / u) (compare (n % u * 2) u)) k ∙ sym (ap neg (round-is f s a b))
-
-pub neg-value : (x : Float) (s : Bool) (a c : ℕ) → HasValue x s a c → HasValue (neg x) (not s) a c
-unfolding neg
-neg-value nan s a c v = v
-neg-value (inf t) s a c v = v
-neg-value (fin t m e) s a c v = (ap not (v .0), v .1)

@@ -13,7 +13,8 @@ use lib.Ieee.{Float, nan, inf, fin, binary32, up, down, round, unlike, sum, add,
 use lib.Ieee.Exact.{HasValue}
 use lib.Ieee.Back.{round-whole}
 use Rattle.norm.specs.Norm.{scale, one, half, least, clamped, floorCode, depth, stepped}
-use Rattle.norm.proofs.Fractions.{unit, units, Within, within, signed, sub-mul, mul-value, add-value}
+use Rattle.floats.proofs.Sums.{sub-mul, add-value}
+use Rattle.norm.proofs.Fractions.{unit, units, Within, within, signed, mul-value}
 use Rattle.norm.proofs.Codes.{code-from-0, code-below-0}
 
 -- y, in units, is within a quarter of n

@@ -1,6 +1,7 @@
 // Lanes of the norm formats. The formats differ in two things, as their definitions do: whether codes are signed, and their width w.
 use floats::bits_of;
 use floats::f32_of;
+use half::power;
 ghost use mathlib.Core.Path.{_≡_};
 ghost use mathlib.Core.Bool.{true, false, cond};
 ghost use Prim.Native.Nat.{_^_, _≤_, _<_, min};
@@ -12,13 +13,6 @@ ghost use Rattle.norm.specs.Norm.{stepped, floorCode, packedNorm, unpack
 ghost use Rattle.norm.specs.Sizes.{nought, sizeDown, sizeUp};
 
 // ---- a format's numbers
-
-fn power(n: u32) -> u32
-    requires { ⌜ n ≤ 16 ⌝ }
-    ensures { λ r. ⌜ r ≡ 2 ^ n ⌝ }
-{
-    1u32 << n
-}
 
 fn whole(n: u32) -> f32
     requires { ⌜ n ≤ 65536 ⌝ }

@@ -1,4 +1,5 @@
 // Lanes of the numeric builtins, over 32 bits: i32, u32 and f32 lanes as their bits, f16 lanes in the low 16.
+use half::choose;
 use values::Scalar;
 ghost use mathlib.Core.Path.{_≡_};
 ghost use mathlib.Core.Bool.{cond};
@@ -7,12 +8,6 @@ ghost use lib.Dec.{leb, ltb, eqb};
 ghost use Rattle.half.specs.Format.{f16, f32};
 ghost use Rattle.values.specs.Program.{four};
 ghost use Rattle.numeric.specs.Numeric.{absLane, signFloat, signLane, leadingLane, onesLane, trailingLane};
-
-pub fn choose(on: bool, a: u32, b: u32) -> u32
-    ensures { λ r. ⌜ r ≡ cond on a b ⌝ }
-{
-    if on { a } else { b }
-}
 
 // ---- abs
 

@@ -8,9 +8,10 @@ use native.Mathlib.Omega.{arith}
 use lib.Dec.{leb, ltb, eqb}
 use lib.Pow.{pow-pos, pow-mono, pow-add}
 use Rattle.half.specs.Format.{hidden, top, infinity, magnitude, lowest}
+use Rattle.half.specs.Program.{format}
 use Rattle.half.proofs.Signs.{top-is}
 use Rattle.exponent.specs.Exponent.{unsplit, fraction, exponent}
-use Rattle.exponent.specs.Leads.{format, Leads}
+use Rattle.exponent.specs.Leads.{Leads}
 use Rattle.exponent.proofs.FirstDigits.{halved, lowest-is}
 use Rattle.exponent.proofs.Cases.{fraction-whole, exponent-whole, finite, fraction-is, exponent-is}
 use Rattle.exponent.proofs.frexp.Statement.{statement}

@@ -4,11 +4,11 @@ use Prim.Native.Nat.{ℕ, _*_, _<_}
 use native.Mathlib.Nat.{mod-lt}
 use native.Mathlib.Omega.{arith}
 use borrow.Author.Needs.{needs}
 use Rattle.half.specs.Format.{f16, top, magnitude, negative, signed}
 use Rattle.half.specs.Convert.{converted, singleOf}
 use Rattle.half.proofs.Signs.{negative-signed, magnitude-signed, signed-below}
-use Rattle.limits.proofs.single_of.Statement.{statement}
-use Rattle.limits.proofs.single_of.Tie as tie
+use Rattle.half.proofs.single_of.Statement.{statement}
+use Rattle.half.proofs.single_of.Tie as tie
 
 module _ (x : ℕ) where
   abbrev half-of : ℕ

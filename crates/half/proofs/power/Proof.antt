@@ -1,12 +1,12 @@
--- `exponent::power` meets its contract: a 1 moved by less than 32 places stays within 32 bits. Assumes nothing.
+-- `half::power` meets its contract: a 1 moved by less than 32 places stays within 32 bits. Assumes nothing.
 use borrow.Author.Needs.{needs}
 use mathlib.Core.Path.{_∙_}
 use Prim.Native.Nat.{_^_}
 use native.Mathlib.Nat.{one-mul}
 use native.Mathlib.Omega.{arith}
 use lib.Pow.{shl-exact}
-use Rattle.exponent.proofs.power.Statement.{statement}
-use Rattle.exponent.proofs.power.Tie as tie
+use Rattle.half.proofs.power.Statement.{statement}
+use Rattle.half.proofs.power.Tie as tie
 
 shl-result : tie.Need-shl-result
 shl-result c = search needs
