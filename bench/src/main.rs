@@ -30,6 +30,8 @@ fn main() {
     records(&text);
     part("lines");
     programs(&text, foldlines, rustlines, emulator);
+    part("abs and the roundings");
+    roundings(foldlines, rustlines, emulator);
     part("half conversions");
     halves();
     part("the order of two values");
@@ -138,6 +140,35 @@ fn programs(text: &[u8], foldlines: &str, rustlines: &str, emulator: &[String]) 
     let count = text.iter().filter(|&&byte| byte == b'\n').count();
     let times = in_turns(|| child::time(emulator, foldlines, text), || child::time(emulator, rustlines, text));
     report("lines", count, times);
+}
+
+// ---- abs, and beside it floor, ceil, trunc, round and fract, on numbers that have digits on both sides of the point
+
+fn roundings(foldlines: &str, rustlines: &str, emulator: &[String]) {
+    const LINES: usize = 1 << 17;
+    let mut random = random_bits();
+    // from 2^-8 to 2^24
+    let mut single = || {
+        let bits = random();
+        bits & 0x807F_FFFF | (119 + bits % 32) << 23
+    };
+    let values: Vec<String> = (0..LINES)
+        .map(|_| format!("vec4<f32>:{:08X},{:08X},{:08X},{:08X}", single(), single(), single(), single()))
+        .collect();
+    for name in ["abs", "floor", "ceil", "trunc", "round", "fract"] {
+        let lines: Vec<String> = values.iter().map(|value| format!("{name}\t{value}\n")).collect();
+        let few = lines.iter().take(FEW).map(|line| line.trim_end().as_bytes());
+        let (ours, theirs): (Vec<_>, Vec<_>) =
+            few.map(|line| (call_of(line).expect("a call"), rustlines::read_call(line).expect("a call"))).unzip();
+        let rounds = TURN / FEW;
+        report(&format!("{name}, record calls"), rounds * FEW, folded(&ours, &theirs, rounds));
+        let text = lines.concat();
+        let times = in_turns(
+            || child::time(emulator, foldlines, text.as_bytes()),
+            || child::time(emulator, rustlines, text.as_bytes()),
+        );
+        report(&format!("{name}, lines"), LINES, times);
+    }
 }
 
 // ---- half conversions: both sides' functions themselves, each called through a pointer

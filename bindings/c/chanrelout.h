@@ -135,7 +135,7 @@ enum chanrelout_type {
 #define CHANRELOUT_MATRIX(columns, rows, scalar) \
     (21 + 9 * ((scalar) == CHANRELOUT_F16) + 3 * ((columns) - 2) + ((rows) - 2))
 
-/* Builtins, in the order of the table in docs/01-scope.md. */
+/* Builtins, in the order of the table in docs/01-scope.md; then those of Q-3 in docs/02-change-requests.md. */
 enum chanrelout_builtin {
     CHANRELOUT_ALL = 1,
     CHANRELOUT_ANY,
@@ -171,7 +171,12 @@ enum chanrelout_builtin {
     CHANRELOUT_UNPACK4XU8,
     CHANRELOUT_UNPACK2X16SNORM,
     CHANRELOUT_UNPACK2X16UNORM,
-    CHANRELOUT_UNPACK2X16FLOAT
+    CHANRELOUT_UNPACK2X16FLOAT,
+    CHANRELOUT_FLOOR,
+    CHANRELOUT_CEIL,
+    CHANRELOUT_TRUNC,
+    CHANRELOUT_ROUND,
+    CHANRELOUT_FRACT
 };
 
 /* ---- values as text, as lines spell them */

@@ -1,14 +1,15 @@
 #!/usr/bin/env python3
 """fold.py <lines >answers
 
-Answers each line of standard input as foldlines must: a reading of docs/01-scope.md and of Q-2 in
+Answers each line of standard input as foldlines must: a reading of docs/01-scope.md and of Q-2 and Q-3 in
 docs/02-change-requests.md, with docs/DECISIONS.md where they leave a choice, written from their words and not from the
-proved code. "01" and "Q-2" below are those two.
+proved code. "01", "Q-2" and "Q-3" below are those.
 
 A lane is its bits. What is worked out is worked out in whole numbers and exact fractions, never in floats:
 `Format.number` says which number a float's bits are, and `Format.rounded` alone turns a number into a float's bits.
 """
 
+import math
 import sys
 from fractions import Fraction
 from typing import Callable, NamedTuple
@@ -246,6 +247,39 @@ def ldexp_of(_, lane, exponent):
     return F32.rounded(F32.number(lane) * power_of_two(shift))
 
 
+def made_whole(scalar, lane, whole):
+    """The whole number that a finite float is taken to; a zero has the float's sign (Q-3)."""
+    floats = FORMATS[scalar]
+    if is_nan(scalar, lane) or floats.is_infinite(lane):
+        return worked_out(scalar, lane)
+    return floats.rounded(whole(floats.number(lane)), zero=lane & floats.sign)
+
+
+def floor_of(scalar, lane):
+    return made_whole(scalar, lane, math.floor)
+
+
+def ceil_of(scalar, lane):
+    return made_whole(scalar, lane, math.ceil)
+
+
+def trunc_of(scalar, lane):
+    return made_whole(scalar, lane, math.trunc)
+
+
+def round_of(scalar, lane):
+    return made_whole(scalar, lane, lambda number: nearest(abs(number)) * (-1 if number < 0 else 1))
+
+
+def fract_of(scalar, lane):
+    """e minus floor(e), rounded once."""
+    floats = FORMATS[scalar]
+    if is_nan(scalar, lane) or floats.is_infinite(lane):
+        return floats.nan
+    number = floats.number(lane)
+    return floats.rounded(number - math.floor(number))
+
+
 # ---- packed words
 
 
@@ -453,6 +487,11 @@ BUILTINS = {
     'unpack2x16snorm': Builtin((U32,), unpacks_snorm(16, 32767)),
     'unpack2x16unorm': Builtin((U32,), unpacks_unorm(16, 65535)),
     'unpack2x16float': Builtin((U32,), unpacks('f32', 16, lambda code: converted(code, F16, F32))),
+    'floor': Builtin((FLOATS,), by_lane(floor_of)),
+    'ceil': Builtin((FLOATS,), by_lane(ceil_of)),
+    'trunc': Builtin((FLOATS,), by_lane(trunc_of)),
+    'round': Builtin((FLOATS,), by_lane(round_of)),
+    'fract': Builtin((FLOATS,), by_lane(fract_of)),
 }
 
 # ---- lines: one character for each byte

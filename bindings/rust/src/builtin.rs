@@ -2,7 +2,7 @@ use std::fmt;
 
 macro_rules! builtins {
     ($($builtin:ident $name:literal)*) => {
-        /// A builtin of document 01's table, in its order.
+        /// A builtin of document 01's table, in its order; then those of Q-3.
         #[derive(Clone, Copy, Debug, PartialEq, Eq, Hash)]
         #[allow(missing_docs)]
         pub enum Builtin {
@@ -59,6 +59,11 @@ builtins! {
     Unpack2x16snorm "unpack2x16snorm"
     Unpack2x16unorm "unpack2x16unorm"
     Unpack2x16float "unpack2x16float"
+    Floor "floor"
+    Ceil "ceil"
+    Trunc "trunc"
+    Round "round"
+    Fract "fract"
 }
 
 impl Builtin {

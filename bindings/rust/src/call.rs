@@ -119,7 +119,7 @@ mod tests {
             words[place] = word;
             refused(&words, ANSWER_WORDS)
         };
-        for number in [0, 36, u64::MAX] {
+        for number in [0, 41, u64::MAX] {
             assert_eq!(with(0, number), Some(Refusal::UnknownBuiltin));
         }
         for count in [0, 1, 3, u64::MAX] {

@@ -183,6 +183,7 @@ impl<W: Write> Lines<W> {
         self.edges_in_every_place()?;
         self.edges_together()?;
         self.every_half()?;
+        self.around_whole_numbers()?;
         self.every_code()?;
         self.every_threshold()?;
         self.small_numbers_packed()?;
@@ -299,7 +300,7 @@ impl<W: Write> Lines<W> {
     /// with both sides of every place where rounding turns.
     fn every_half(&mut self) -> io::Result<()> {
         let named = named_in(self.types);
-        for name in ["abs", "sign", "frexp"] {
+        for name in ["abs", "sign", "frexp", "floor", "ceil", "trunc", "round", "fract"] {
             for half in 0..=0xFFFF {
                 self.unary(name, named("f16"), &[half])?;
             }
@@ -328,6 +329,34 @@ impl<W: Write> Lines<W> {
             };
             self.unary("pack2x16float", named("vec2<f32>"), &lanes[..2])?;
             self.unary("pack2x16float", named("vec2<f32>"), &lanes[2..])?;
+        }
+        Ok(())
+    }
+
+    /// The f32 of every exponent where floor, ceil, trunc, round and fract turn, and those beside them: the ends of the
+    /// exponent and, where a number has digits on both sides of the point, the first and last whole numbers and halves.
+    fn around_whole_numbers(&mut self) -> io::Result<()> {
+        const FRACTION: u32 = 0x007F_FFFF;
+        let single = named_in(self.types)("f32");
+        for exponent in 0..=0xFFu32 {
+            let mut fractions = vec![0, 1, 2, 0x3F_FFFF, 0x40_0000, 0x40_0001, FRACTION - 1, FRACTION];
+            if (127..150).contains(&exponent) {
+                let half = 1 << (149 - exponent);
+                for whole in [0, 2 * half, FRACTION & !(4 * half - 1), FRACTION & !(2 * half - 1)] {
+                    for near in [whole, whole.wrapping_sub(1), whole + 1, whole + half - 1, whole + half, whole + half + 1] {
+                        fractions.push(near & FRACTION);
+                    }
+                }
+            }
+            fractions.sort_unstable();
+            fractions.dedup();
+            for fraction in fractions {
+                for sign in [0, 0x8000_0000] {
+                    for name in ["floor", "ceil", "trunc", "round", "fract"] {
+                        self.unary(name, single, &[sign | exponent << 23 | fraction])?;
+                    }
+                }
+            }
         }
         Ok(())
     }

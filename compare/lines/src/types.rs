@@ -76,7 +76,7 @@ impl Type {
     }
 }
 
-/// A row of 01's table.
+/// A row of 01's table, or of Q-3's builtins.
 pub struct Builtin {
     pub name: &'static str,
     /// Values taken; bitcast's target is not counted.
@@ -134,6 +134,11 @@ pub fn builtins() -> Vec<Builtin> {
         row("unpack2x16snorm", 1, Row::Only("u32")),
         row("unpack2x16unorm", 1, Row::Only("u32")),
         row("unpack2x16float", 1, Row::Only("u32")),
+        row("floor", 1, Row::Lanes(&[F32, F16])),
+        row("ceil", 1, Row::Lanes(&[F32, F16])),
+        row("trunc", 1, Row::Lanes(&[F32, F16])),
+        row("round", 1, Row::Lanes(&[F32, F16])),
+        row("fract", 1, Row::Lanes(&[F32, F16])),
     ]
 }
 

@@ -19,6 +19,7 @@ type Folded = Result<Instance, Error>;
 enum Builtin {
     Bitcast,
     One(fn(&Instance) -> Folded),
+    OneAtStage(fn(&Instance, ShaderStage) -> Folded),
     Two(fn(&Instance, &Instance) -> Folded),
     TwoAtStage(fn(&Instance, &Instance, ShaderStage) -> Folded),
     Three(fn(&Instance, &Instance, &Instance) -> Folded),
@@ -63,6 +64,11 @@ fn builtin(name: &[u8]) -> Option<Builtin> {
         b"unpack2x16snorm" => One(call::unpack2x16snorm),
         b"unpack2x16unorm" => One(call::unpack2x16unorm),
         b"unpack2x16float" => One(call::unpack2x16float),
+        b"floor" => One(call::floor),
+        b"ceil" => One(call::ceil),
+        b"trunc" => One(call::trunc),
+        b"round" => One(call::round),
+        b"fract" => OneAtStage(call::fract),
         _ => return None,
     })
 }
@@ -80,6 +86,7 @@ impl Call {
         match self.builtin {
             Bitcast => call::bitcast_t(&self.target, a),
             One(f) => f(a),
+            OneAtStage(f) => f(a, ShaderStage::Exec),
             Two(f) => f(a, b),
             TwoAtStage(f) => f(a, b, ShaderStage::Exec),
             Three(f) => f(a, b, c),
@@ -98,7 +105,7 @@ pub fn read_call(line: &[u8]) -> Option<Call> {
         _ => Type::Other,
     };
     let count = match builtin {
-        Bitcast | One(_) => 1,
+        Bitcast | One(_) | OneAtStage(_) => 1,
         Two(_) | TwoAtStage(_) => 2,
         Three(_) => 3,
     };

@@ -16,8 +16,10 @@ use Rattle.limits.specs.Limits.{minLane, maxLane, clampLane, saturateLane, step
 use Rattle.products.specs.Products.{crossLane, dotLane}
 use Rattle.numeric.specs.Parts.{parts, joined}
 use Rattle.exponent.specs.Exponent.{fractionLane, exponentLane, ldexpLane}
+use Rattle.rounding.specs.declared.Way.the-variants as To
+use Rattle.rounding.specs.Lanes.{wholeLane, fractLane}
 use Rattle.calls.specs.declared.Builtin.{Builtin}
-use Rattle.calls.specs.declared.Builtin.the-variants.{All, Any, Select, Abs, Sign, CountLeadingZeros, CountOneBits, CountTrailingZeros, Min, Max, Clamp, Saturate, Step, Cross, Dot, Transpose, Frexp, Ldexp, Bitcast, Pack4x8snorm, Pack4x8unorm, Pack4xI8, Pack4xI8Clamp, Pack4xU8, Pack4xU8Clamp, Pack2x16snorm, Pack2x16unorm, Pack2x16float, Unpack4x8snorm, Unpack4x8unorm, Unpack4xI8, Unpack4xU8, Unpack2x16snorm, Unpack2x16unorm, Unpack2x16float, Unknown}
+use Rattle.calls.specs.declared.Builtin.the-variants.{All, Any, Select, Abs, Sign, CountLeadingZeros, CountOneBits, CountTrailingZeros, Min, Max, Clamp, Saturate, Step, Cross, Dot, Transpose, Frexp, Ldexp, Bitcast, Pack4x8snorm, Pack4x8unorm, Pack4xI8, Pack4xI8Clamp, Pack4xU8, Pack4xU8Clamp, Pack2x16snorm, Pack2x16unorm, Pack2x16float, Unpack4x8snorm, Unpack4x8unorm, Unpack4xI8, Unpack4xU8, Unpack2x16snorm, Unpack2x16unorm, Unpack2x16float, Floor, Ceil, Trunc, Round, Fract, Unknown}
 use Rattle.packing.specs.declared.Coding8.the-variants as Of8
 use Rattle.packing.specs.declared.Coding16.the-variants as Of16
 use Rattle.packing.specs.Lanes.{fillingFrom}
@@ -103,4 +105,9 @@ outcome Unpack4xU8 ok t p x b c = given ok 18 (map (lane8Of Of8.Unsigned) (parts
 outcome Unpack2x16snorm ok t p x b c = given ok 9 (map (lane16Of Of16.Snorm) (parts 16 2 (getD x 0 0)) ++ 0 ∷ 0 ∷ [])
 outcome Unpack2x16unorm ok t p x b c = given ok 9 (map (lane16Of Of16.Unorm) (parts 16 2 (getD x 0 0)) ++ 0 ∷ 0 ∷ [])
 outcome Unpack2x16float ok t p x b c = given ok 9 (map (lane16Of Of16.Float) (parts 16 2 (getD x 0 0)) ++ 0 ∷ 0 ∷ [])
+outcome Floor ok t p x b c = given ok p (four (wholeLane To.Floor (scalarOf (kindAt p))) x)
+outcome Ceil ok t p x b c = given ok p (four (wholeLane To.Ceil (scalarOf (kindAt p))) x)
+outcome Trunc ok t p x b c = given ok p (four (wholeLane To.Trunc (scalarOf (kindAt p))) x)
+outcome Round ok t p x b c = given ok p (four (wholeLane To.Round (scalarOf (kindAt p))) x)
+outcome Fract ok t p x b c = given ok p (four (fractLane (scalarOf (kindAt p))) x)
 outcome Unknown ok t p x b c = given ok p x

@@ -6,12 +6,14 @@ mod order;
 mod pack;
 mod powers;
 mod vectors;
+mod wholes;
 
 use calls::Builtin;
 use calls::types_of;
 use judging::tests::one_value;
 use packing::Coding8;
 use packing::Coding16;
+use rounding::Way;
 ghost use mathlib.Core.Path.{_≡_};
 ghost use Prim.Native.Nat.{_≤_};
 ghost use lib.Dec.{eqb};
@@ -255,6 +257,11 @@ pub fn arm(which: Builtin, w: &[u64], p: u64, x: [u32; 4]) -> Outcome
             Coding16::Float,
             x,
         ),
+        Builtin::Floor => wholes::whole(w, n, p, types_of(Builtin::Floor), Way::Floor, x),
+        Builtin::Ceil => wholes::whole(w, n, p, types_of(Builtin::Ceil), Way::Ceil, x),
+        Builtin::Trunc => wholes::whole(w, n, p, types_of(Builtin::Trunc), Way::Trunc, x),
+        Builtin::Round => wholes::whole(w, n, p, types_of(Builtin::Round), Way::Round, x),
+        Builtin::Fract => wholes::fract(w, n, p, types_of(Builtin::Fract), x),
         Builtin::Unknown => given(false, p, x),
     }
 }

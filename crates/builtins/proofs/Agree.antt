@@ -15,8 +15,10 @@ use Rattle.values.proofs.Places.{same}
 use Rattle.numeric.specs.Numeric.{absLane, signLane, leadingLane, onesLane, trailingLane}
 use Rattle.limits.specs.Limits.{minLane, maxLane, clampLane, saturateLane, stepLane}
 use Rattle.exponent.specs.Exponent.{ldexpLane}
+use Rattle.rounding.specs.declared.Way.the-variants as To
+use Rattle.rounding.specs.Lanes.{wholeLane, fractLane}
 use Rattle.calls.specs.declared.Builtin.{Builtin}
-use Rattle.calls.specs.declared.Builtin.the-variants.{All, Any, Select, Abs, Sign, CountLeadingZeros, CountOneBits, CountTrailingZeros, Min, Max, Clamp, Saturate, Step, Cross, Dot, Transpose, Frexp, Ldexp, Bitcast, Pack4x8snorm, Pack4x8unorm, Pack4xI8, Pack4xI8Clamp, Pack4xU8, Pack4xU8Clamp, Pack2x16snorm, Pack2x16unorm, Pack2x16float, Unpack4x8snorm, Unpack4x8unorm, Unpack4xI8, Unpack4xU8, Unpack2x16snorm, Unpack2x16unorm, Unpack2x16float, Unknown}
+use Rattle.calls.specs.declared.Builtin.the-variants.{All, Any, Select, Abs, Sign, CountLeadingZeros, CountOneBits, CountTrailingZeros, Min, Max, Clamp, Saturate, Step, Cross, Dot, Transpose, Frexp, Ldexp, Bitcast, Pack4x8snorm, Pack4x8unorm, Pack4xI8, Pack4xI8Clamp, Pack4xU8, Pack4xU8Clamp, Pack2x16snorm, Pack2x16unorm, Pack2x16float, Unpack4x8snorm, Unpack4x8unorm, Unpack4xI8, Unpack4xU8, Unpack2x16snorm, Unpack2x16unorm, Unpack2x16float, Floor, Ceil, Trunc, Round, Fract, Unknown}
 use Rattle.calls.specs.Table.{Taken, Anything, Booleans, Numbers, Integers, Ordered, Floats, Singles, I32s, Vectors, Matrices, Only, OneType, Selectable, SameShape, Unary, Binary, Absent, matrix, takes}
 use Rattle.calls.specs.Refuse.{judged}
 use Rattle.calls.specs.Program.{Passed2}
@@ -87,4 +89,9 @@ module _ (ok : Bool) (n t : ℕ) (a b c : Value) (la : length (a .lanes) ≡ 16)
   agree Unpack2x16snorm j = agree-unpack ok a 16 2 (lane16Of Of16.Snorm) (Vec Two F32) _ (formed1 (Only (One U32)) j) refl
   agree Unpack2x16unorm j = agree-unpack ok a 16 2 (lane16Of Of16.Unorm) (Vec Two F32) _ (formed1 (Only (One U32)) j) refl
   agree Unpack2x16float j = agree-unpack ok a 16 2 (lane16Of Of16.Float) (Vec Two F32) _ (formed1 (Only (One U32)) j) refl
+  agree Floor j = agree1 ok a la is (formed1 Floats j) (λ k. wholeLane To.Floor (scalarOf k))
+  agree Ceil j = agree1 ok a la is (formed1 Floats j) (λ k. wholeLane To.Ceil (scalarOf k))
+  agree Trunc j = agree1 ok a la is (formed1 Floats j) (λ k. wholeLane To.Trunc (scalarOf k))
+  agree Round j = agree1 ok a la is (formed1 Floats j) (λ k. wholeLane To.Round (scalarOf k))
+  agree Fract j = agree1 ok a la is (formed1 Floats j) (λ k. fractLane (scalarOf k))
   agree Unknown j = absurd (unknown j)

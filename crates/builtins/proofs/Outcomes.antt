@@ -14,7 +14,7 @@ use Rattle.values.specs.declared.Value.{Value}
 use Rattle.values.specs.Value.{scalarOf, shaped, place, kindAt}
 use Rattle.values.proofs.Places.{each}
 use Rattle.calls.specs.declared.Builtin.{Builtin}
-use Rattle.calls.specs.declared.Builtin.the-variants.{All, Any, Select, Abs, Sign, CountLeadingZeros, CountOneBits, CountTrailingZeros, Min, Max, Clamp, Saturate, Step, Cross, Dot, Transpose, Frexp, Ldexp, Bitcast, Pack4x8snorm, Pack4x8unorm, Pack4xI8, Pack4xI8Clamp, Pack4xU8, Pack4xU8Clamp, Pack2x16snorm, Pack2x16unorm, Pack2x16float, Unpack4x8snorm, Unpack4x8unorm, Unpack4xI8, Unpack4xU8, Unpack2x16snorm, Unpack2x16unorm, Unpack2x16float, Unknown}
+use Rattle.calls.specs.declared.Builtin.the-variants.{All, Any, Select, Abs, Sign, CountLeadingZeros, CountOneBits, CountTrailingZeros, Min, Max, Clamp, Saturate, Step, Cross, Dot, Transpose, Frexp, Ldexp, Bitcast, Pack4x8snorm, Pack4x8unorm, Pack4xI8, Pack4xI8Clamp, Pack4xU8, Pack4xU8Clamp, Pack2x16snorm, Pack2x16unorm, Pack2x16float, Unpack4x8snorm, Unpack4x8unorm, Unpack4xI8, Unpack4xU8, Unpack2x16snorm, Unpack2x16unorm, Unpack2x16float, Floor, Ceil, Trunc, Round, Fract, Unknown}
 use Rattle.calls.specs.Table.{Numbers, taken, takes}
 use Rattle.calls.specs.Refuse.{judged}
 use Rattle.calls.proofs.Converse.{from-implied}
@@ -80,6 +80,11 @@ module _ (ok : Bool) (t p : ℕ) (x : List ℕ) (b c : Value) where
   passes-as Unpack2x16snorm = refl
   passes-as Unpack2x16unorm = refl
   passes-as Unpack2x16float = refl
+  passes-as Floor = refl
+  passes-as Ceil = refl
+  passes-as Trunc = refl
+  passes-as Round = refl
+  passes-as Fract = refl
   passes-as Unknown = refl
 
   pub within : (n : ℕ) (a : Value) → p ≤ 20 → (which : Builtin) → judged (takes which) n (kindAt t) a b c ≡ 0 → Within (outcome which ok t p x b c)
@@ -118,4 +123,9 @@ module _ (ok : Bool) (t p : ℕ) (x : List ℕ) (b c : Value) where
   within n a h Unpack2x16snorm j = alone (omega arith) refl
   within n a h Unpack2x16unorm j = alone (omega arith) refl
   within n a h Unpack2x16float j = alone (omega arith) refl
+  within n a h Floor j = alone h refl
+  within n a h Ceil j = alone h refl
+  within n a h Trunc j = alone h refl
+  within n a h Round j = alone h refl
+  within n a h Fract j = alone h refl
   within n a h Unknown j = alone h refl

@@ -8,7 +8,7 @@ use Rattle.values.specs.declared.Kind.{Kind}
 use Rattle.values.specs.declared.Kind.the-variants.{Vec}
 use Rattle.values.specs.declared.Value.{Value}
 use Rattle.calls.specs.declared.Builtin.{Builtin}
-use Rattle.calls.specs.declared.Builtin.the-variants.{All, Any, Select, Abs, Sign, CountLeadingZeros, CountOneBits, CountTrailingZeros, Min, Max, Clamp, Saturate, Step, Cross, Dot, Transpose, Frexp, Ldexp, Bitcast, Pack4x8snorm, Pack4x8unorm, Pack4xI8, Pack4xI8Clamp, Pack4xU8, Pack4xU8Clamp, Pack2x16snorm, Pack2x16unorm, Pack2x16float, Unpack4x8snorm, Unpack4x8unorm, Unpack4xI8, Unpack4xU8, Unpack2x16snorm, Unpack2x16unorm, Unpack2x16float, Unknown}
+use Rattle.calls.specs.declared.Builtin.the-variants.{All, Any, Select, Abs, Sign, CountLeadingZeros, CountOneBits, CountTrailingZeros, Min, Max, Clamp, Saturate, Step, Cross, Dot, Transpose, Frexp, Ldexp, Bitcast, Pack4x8snorm, Pack4x8unorm, Pack4xI8, Pack4xI8Clamp, Pack4xU8, Pack4xU8Clamp, Pack2x16snorm, Pack2x16unorm, Pack2x16float, Unpack4x8snorm, Unpack4x8unorm, Unpack4xI8, Unpack4xU8, Unpack2x16snorm, Unpack2x16unorm, Unpack2x16float, Floor, Ceil, Trunc, Round, Fract, Unknown}
 use Rattle.calls.specs.declared.Call.{Call}
 use Rattle.calls.specs.Refuse.{refusalOf}
 use Rattle.builtins.specs.declared.Answer.{Answer}
@@ -19,6 +19,8 @@ use Rattle.limits.specs.Limits.{minLane, maxLane, clampLane, saturateLane, step
 use Rattle.moves.specs.Moves.{transposeOf}
 use Rattle.builtins.specs.Numeric.{crossOf, dotOf}
 use Rattle.exponent.specs.Exponent.{ldexpLane}
+use Rattle.rounding.specs.declared.Way.the-variants as To
+use Rattle.rounding.specs.Lanes.{wholeLane, fractLane}
 use Rattle.packing.specs.Lanes.{lowByte, extended, plain}
 use Rattle.builtins.specs.Exponent.{fractionOf, exponentOf}
 use Rattle.builtins.specs.Bitcast.{bitcastOf}
@@ -76,6 +78,11 @@ answerBy Unpack4xU8 t a b c = answered (unpacked 8 4 plain (Vec Four U32) a)
 answerBy Unpack2x16snorm t a b c = answered (unpackedNorms true 16 2 (Vec Two F32) a)
 answerBy Unpack2x16unorm t a b c = answered (unpackedNorms false 16 2 (Vec Two F32) a)
 answerBy Unpack2x16float t a b c = answered (unpacked 16 2 singleOf (Vec Two F32) a)
+answerBy Floor t a b c = answered (lanewise (wholeLane To.Floor (scalarOf (a .kind))) a)
+answerBy Ceil t a b c = answered (lanewise (wholeLane To.Ceil (scalarOf (a .kind))) a)
+answerBy Trunc t a b c = answered (lanewise (wholeLane To.Trunc (scalarOf (a .kind))) a)
+answerBy Round t a b c = answered (lanewise (wholeLane To.Round (scalarOf (a .kind))) a)
+answerBy Fract t a b c = answered (lanewise (fractLane (scalarOf (a .kind))) a)
 answerBy Unknown t a b c = refused 1
 
 abbrev pub foldBy : ℕ → Call → Answer

@@ -11,7 +11,7 @@ use Rattle.values.specs.declared.Kind.{Kind}
 use Rattle.values.specs.declared.Kind.the-variants.{Empty, One, Vec, Mat}
 use Rattle.values.specs.Value.{shaped, scalarPlace, sameKind}
 use Rattle.calls.specs.declared.Builtin.{Builtin}
-use Rattle.calls.specs.declared.Builtin.the-variants.{All, Any, Select, Abs, Sign, CountLeadingZeros, CountOneBits, CountTrailingZeros, Min, Max, Clamp, Saturate, Step, Cross, Dot, Transpose, Frexp, Ldexp, Bitcast, Pack4x8snorm, Pack4x8unorm, Pack4xI8, Pack4xI8Clamp, Pack4xU8, Pack4xU8Clamp, Pack2x16snorm, Pack2x16unorm, Pack2x16float, Unpack4x8snorm, Unpack4x8unorm, Unpack4xI8, Unpack4xU8, Unpack2x16snorm, Unpack2x16unorm, Unpack2x16float, Unknown}
+use Rattle.calls.specs.declared.Builtin.the-variants.{All, Any, Select, Abs, Sign, CountLeadingZeros, CountOneBits, CountTrailingZeros, Min, Max, Clamp, Saturate, Step, Cross, Dot, Transpose, Frexp, Ldexp, Bitcast, Pack4x8snorm, Pack4x8unorm, Pack4xI8, Pack4xI8Clamp, Pack4xU8, Pack4xU8Clamp, Pack2x16snorm, Pack2x16unorm, Pack2x16float, Unpack4x8snorm, Unpack4x8unorm, Unpack4xI8, Unpack4xU8, Unpack2x16snorm, Unpack2x16unorm, Unpack2x16float, Floor, Ceil, Trunc, Round, Fract, Unknown}
 
 -- ---- what a row says
 
@@ -127,6 +127,11 @@ takes Unpack4xU8 = Unary (Only (One U32))
 takes Unpack2x16snorm = Unary (Only (One U32))
 takes Unpack2x16unorm = Unary (Only (One U32))
 takes Unpack2x16float = Unary (Only (One U32))
+takes Floor = Unary Floats
+takes Ceil = Unary Floats
+takes Trunc = Unary Floats
+takes Round = Unary Floats
+takes Fract = Unary Floats
 takes Unknown = Absent
 
 -- ---- the table's builtins, in its order
@@ -137,7 +142,8 @@ builtins =
     ∷ CountTrailingZeros ∷ Min ∷ Max ∷ Clamp ∷ Saturate ∷ Step ∷ Cross
     ∷ Dot ∷ Transpose ∷ Frexp ∷ Ldexp ∷ Bitcast ∷ Pack4x8snorm ∷ Pack4x8unorm
     ∷ Pack4xI8 ∷ Pack4xI8Clamp ∷ Pack4xU8 ∷ Pack4xU8Clamp ∷ Pack2x16snorm ∷ Pack2x16unorm ∷ Pack2x16float
-    ∷ Unpack4x8snorm ∷ Unpack4x8unorm ∷ Unpack4xI8 ∷ Unpack4xU8 ∷ Unpack2x16snorm ∷ Unpack2x16unorm ∷ Unpack2x16float ∷ []
+    ∷ Unpack4x8snorm ∷ Unpack4x8unorm ∷ Unpack4xI8 ∷ Unpack4xU8 ∷ Unpack2x16snorm ∷ Unpack2x16unorm ∷ Unpack2x16float
+    ∷ Floor ∷ Ceil ∷ Trunc ∷ Round ∷ Fract ∷ []
 
 -- the builtin of a number, its place in 01's table from 1, and Unknown of 0 and of numbers past the last
 unfoldable pub builtinAt : ℕ → Builtin

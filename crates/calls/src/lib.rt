@@ -48,11 +48,16 @@ pub enum Builtin {
     Unpack2x16snorm,
     Unpack2x16unorm,
     Unpack2x16float,
+    Floor,
+    Ceil,
+    Trunc,
+    Round,
+    Fract,
     Unknown,
 }
 
 // The builtins by their numbers: their places in 01's table from 1.
-const BUILTINS: [Builtin; 36] = [
+const BUILTINS: [Builtin; 41] = [
     Builtin::Unknown,
     Builtin::All,
     Builtin::Any,
@@ -89,13 +94,18 @@ const BUILTINS: [Builtin; 36] = [
     Builtin::Unpack2x16snorm,
     Builtin::Unpack2x16unorm,
     Builtin::Unpack2x16float,
+    Builtin::Floor,
+    Builtin::Ceil,
+    Builtin::Trunc,
+    Builtin::Round,
+    Builtin::Fract,
 ];
 
 // The builtin of a number, Unknown where no builtin has it.
 pub fn builtin_at(n: u64) -> Builtin
     ensures { λ r. ⌜ r ≡ builtinAt n ⌝ }
 {
-    if n < 36 {
+    if n < 41 {
         BUILTINS[n as usize]
     } else {
         Builtin::Unknown
@@ -104,7 +114,7 @@ pub fn builtin_at(n: u64) -> Builtin
 
 // A builtin's number.
 pub fn number_of(b: Builtin) -> u64
-    ensures { λ r. ⌜ (builtinAt r ≡ b) × (r < 36) ⌝ }
+    ensures { λ r. ⌜ (builtinAt r ≡ b) × (r < 41) ⌝ }
 {
     match b {
         Builtin::All => 1,
@@ -142,6 +152,11 @@ pub fn number_of(b: Builtin) -> u64
         Builtin::Unpack2x16snorm => 33,
         Builtin::Unpack2x16unorm => 34,
         Builtin::Unpack2x16float => 35,
+        Builtin::Floor => 36,
+        Builtin::Ceil => 37,
+        Builtin::Trunc => 38,
+        Builtin::Round => 39,
+        Builtin::Fract => 40,
         Builtin::Unknown => 0,
     }
 }

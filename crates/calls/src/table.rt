@@ -202,6 +202,26 @@ pub fn entry_of(b: Builtin) -> Entry
             shape: Shape::OneValue,
             set: U32,
         },
+        Builtin::Floor => Entry {
+            shape: Shape::OneValue,
+            set: FLOATS,
+        },
+        Builtin::Ceil => Entry {
+            shape: Shape::OneValue,
+            set: FLOATS,
+        },
+        Builtin::Trunc => Entry {
+            shape: Shape::OneValue,
+            set: FLOATS,
+        },
+        Builtin::Round => Entry {
+            shape: Shape::OneValue,
+            set: FLOATS,
+        },
+        Builtin::Fract => Entry {
+            shape: Shape::OneValue,
+            set: FLOATS,
+        },
         Builtin::Unknown => Entry {
             shape: Shape::Unlisted,
             set: 0,

@@ -19,7 +19,7 @@ use Rattle.values.specs.Program.{isLanes}
 use Rattle.values.proofs.Bools.{both, and}
 use Rattle.values.proofs.Places.{same}
 use Rattle.calls.specs.declared.Builtin.{Builtin}
-use Rattle.calls.specs.declared.Builtin.the-variants.{All, Any, Select, Abs, Sign, CountLeadingZeros, CountOneBits, CountTrailingZeros, Min, Max, Clamp, Saturate, Step, Cross, Dot, Transpose, Frexp, Ldexp, Bitcast, Pack4x8snorm, Pack4x8unorm, Pack4xI8, Pack4xI8Clamp, Pack4xU8, Pack4xU8Clamp, Pack2x16snorm, Pack2x16unorm, Pack2x16float, Unpack4x8snorm, Unpack4x8unorm, Unpack4xI8, Unpack4xU8, Unpack2x16snorm, Unpack2x16unorm, Unpack2x16float, Unknown}
+use Rattle.calls.specs.declared.Builtin.the-variants.{All, Any, Select, Abs, Sign, CountLeadingZeros, CountOneBits, CountTrailingZeros, Min, Max, Clamp, Saturate, Step, Cross, Dot, Transpose, Frexp, Ldexp, Bitcast, Pack4x8snorm, Pack4x8unorm, Pack4xI8, Pack4xI8Clamp, Pack4xU8, Pack4xU8Clamp, Pack2x16snorm, Pack2x16unorm, Pack2x16float, Unpack4x8snorm, Unpack4x8unorm, Unpack4xI8, Unpack4xU8, Unpack2x16snorm, Unpack2x16unorm, Unpack2x16float, Floor, Ceil, Trunc, Round, Fract, Unknown}
 use Rattle.calls.specs.Table.{Unary, Binary, Ternary, Taken, Anything, Booleans, Numbers, Integers, Ordered, Floats, Singles, I32s, Matrices, Only, OneType, Selectable, SameShape, taken, takes}
 use Rattle.calls.specs.Refuse.{judged}
 use Rattle.calls.specs.Program.{Passed, Passed3}
@@ -32,6 +32,7 @@ use Rattle.limits.specs.Limits.{saturateLane}
 use Rattle.products.specs.Products.{crossLane}
 use Rattle.exponent.specs.Exponent.{fractionLane, exponentLane, ldexpLane}
 use Rattle.exponent.proofs.Bounds.{fraction-lane-below, exponent-lane-below, ldexp-lane-below}
+use Rattle.rounding.proofs.Laws.{whole-lane-fits, fract-lane-fits}
 use Rattle.builtins.specs.Exponent.{fractionOf, exponentOf}
 use Rattle.formats.specs.Formats.{x8snorm, x8unorm, xI8, xU8, x16snorm, x16unorm, x16float}
 use Rattle.moves.specs.Moves.{selectLane, transposeOf}
@@ -196,6 +197,11 @@ module _ (n : ℕ) (t : Kind) (a b c : Value) (la : length (a .lanes) ≡ 16) (l
   good Unpack2x16snorm e = one (unpacked-formed (laws x16snorm) Two F32 a refl refl)
   good Unpack2x16unorm e = one (unpacked-formed (laws x16unorm) Two F32 a refl refl)
   good Unpack2x16float e = one (unpacked-formed (laws x16float) Two F32 a refl refl)
+  good Floor e = lanes1 Floats refl e _ (whole-lane-fits _ (scalarOf (a .kind)))
+  good Ceil e = lanes1 Floats refl e _ (whole-lane-fits _ (scalarOf (a .kind)))
+  good Trunc e = lanes1 Floats refl e _ (whole-lane-fits _ (scalarOf (a .kind)))
+  good Round e = lanes1 Floats refl e _ (whole-lane-fits _ (scalarOf (a .kind)))
+  good Fract e = lanes1 Floats refl e _ (fract-lane-fits (scalarOf (a .kind)))
   good Unknown e = absurd (unknown e)
 
 pub answers-formed : AnswersFormed

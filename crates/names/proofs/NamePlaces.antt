@@ -29,11 +29,11 @@ spelled i = sameBytes (nameOf (builtinAt i)) (take (start (suc i) - start i) (dr
 test : ℕ → Bool
 test i = up i && (within i && spelled i)
 
-passed : (i : ℕ) → i < 36 → test i ≡ true
+passed : (i : ℕ) → i < 41 → test i ≡ true
 unfolding test below sameBytes start builtinAt
-passed i h = below-at test 36 i refl h
+passed i h = below-at test 41 i refl h
 
-module _ (i : ℕ) (h : i < 36) where
+module _ (i : ℕ) (h : i < 41) where
   parts : (up i ≡ true) × (within i && spelled i ≡ true)
   unfolding test
   parts = both (up i) (within i && spelled i) (passed i h)

@@ -8,7 +8,7 @@ use borrow.Author.Tests.{ltb-true}
 use lib.Dec.{ltb}
 use lib.ListN.{getD}
 use Rattle.calls.specs.declared.Builtin.{Builtin}
-use Rattle.calls.specs.declared.Builtin.the-variants.{All, Any, Select, Abs, Sign, CountLeadingZeros, CountOneBits, CountTrailingZeros, Min, Max, Clamp, Saturate, Step, Cross, Dot, Transpose, Frexp, Ldexp, Bitcast, Pack4x8snorm, Pack4x8unorm, Pack4xI8, Pack4xI8Clamp, Pack4xU8, Pack4xU8Clamp, Pack2x16snorm, Pack2x16unorm, Pack2x16float, Unpack4x8snorm, Unpack4x8unorm, Unpack4xI8, Unpack4xU8, Unpack2x16snorm, Unpack2x16unorm, Unpack2x16float, Unknown}
+use Rattle.calls.specs.declared.Builtin.the-variants.{All, Any, Select, Abs, Sign, CountLeadingZeros, CountOneBits, CountTrailingZeros, Min, Max, Clamp, Saturate, Step, Cross, Dot, Transpose, Frexp, Ldexp, Bitcast, Pack4x8snorm, Pack4x8unorm, Pack4xI8, Pack4xI8Clamp, Pack4xU8, Pack4xU8Clamp, Pack2x16snorm, Pack2x16unorm, Pack2x16float, Unpack4x8snorm, Unpack4x8unorm, Unpack4xI8, Unpack4xU8, Unpack2x16snorm, Unpack2x16unorm, Unpack2x16float, Floor, Ceil, Trunc, Round, Fract, Unknown}
 use Rattle.calls.specs.Table.{builtins, builtinAt}
 use Rattle.calls.proofs.Shaped.{numbered, each}
 use Rattle.values.proofs.Bools.{both}
@@ -57,6 +57,11 @@ guess-named Unpack4xU8 = refl
 guess-named Unpack2x16snorm = refl
 guess-named Unpack2x16unorm = refl
 guess-named Unpack2x16float = refl
+guess-named Floor = refl
+guess-named Ceil = refl
+guess-named Trunc = refl
+guess-named Round = refl
+guess-named Fract = refl
 guess-named Unknown = refl
 
 -- what one computed test finds of every number holds of every builtin
@@ -76,9 +81,9 @@ module _ {A : Type 0} (p : A → Bool) where
   every-at (x ∷ xs) d (suc i) e t = every-at xs d i e (both (p x) (every xs) t .1)
 
 -- each slot leads to a number of the table
-pub place-below : (h : ℕ) → place h < 36
+pub place-below : (h : ℕ) → place h < 41
 unfolding every place places slot
-place-below h = ltb-true (place h) 36 (every-at (λ x. ltb x 36) (places 1 builtins) 0 h refl refl)
+place-below h = ltb-true (place h) 41 (every-at (λ x. ltb x 41) (places 1 builtins) 0 h refl refl)
 
 named-alike : (a b : Builtin) → nameOf a ≡ nameOf b → a ≡ b
 named-alike a b e = sym (guess-named a) ∙ ap guess e ∙ guess-named b

@@ -2,7 +2,7 @@
 use Prim.Native.Nat.{ℕ}
 use mathlib.Core.List.{List, []}
 use Rattle.calls.specs.declared.Builtin.{Builtin}
-use Rattle.calls.specs.declared.Builtin.the-variants.{All, Any, Select, Abs, Sign, CountLeadingZeros, CountOneBits, CountTrailingZeros, Min, Max, Clamp, Saturate, Step, Cross, Dot, Transpose, Frexp, Ldexp, Bitcast, Pack4x8snorm, Pack4x8unorm, Pack4xI8, Pack4xI8Clamp, Pack4xU8, Pack4xU8Clamp, Pack2x16snorm, Pack2x16unorm, Pack2x16float, Unpack4x8snorm, Unpack4x8unorm, Unpack4xI8, Unpack4xU8, Unpack2x16snorm, Unpack2x16unorm, Unpack2x16float, Unknown}
+use Rattle.calls.specs.declared.Builtin.the-variants.{All, Any, Select, Abs, Sign, CountLeadingZeros, CountOneBits, CountTrailingZeros, Min, Max, Clamp, Saturate, Step, Cross, Dot, Transpose, Frexp, Ldexp, Bitcast, Pack4x8snorm, Pack4x8unorm, Pack4xI8, Pack4xI8Clamp, Pack4xU8, Pack4xU8Clamp, Pack2x16snorm, Pack2x16unorm, Pack2x16float, Unpack4x8snorm, Unpack4x8unorm, Unpack4xI8, Unpack4xU8, Unpack2x16snorm, Unpack2x16unorm, Unpack2x16float, Floor, Ceil, Trunc, Round, Fract, Unknown}
 use Rattle.calls.specs.Table.{builtins}
 use Rattle.buffers.specs.Text.{bytes, firstSpelled}
 
@@ -42,6 +42,11 @@ nameOf Unpack4xU8 = bytes "unpack4xU8"
 nameOf Unpack2x16snorm = bytes "unpack2x16snorm"
 nameOf Unpack2x16unorm = bytes "unpack2x16unorm"
 nameOf Unpack2x16float = bytes "unpack2x16float"
+nameOf Floor = bytes "floor"
+nameOf Ceil = bytes "ceil"
+nameOf Trunc = bytes "trunc"
+nameOf Round = bytes "round"
+nameOf Fract = bytes "fract"
 nameOf Unknown = []
 
 -- Unknown where no builtin has that name

@@ -7,10 +7,10 @@ ghost use Rattle.names.specs.Names.{nameOf, builtinOf};
 ghost use Rattle.names.specs.Program.{start, slot, place};
 
 // The names of the builtins, one after another, and where each starts by the builtin's number; Unknown's, the first, is empty.
-const TEXT: [u8; 321] =
-    *b"allanyselectabssigncountLeadingZeroscountOneBitscountTrailingZerosminmaxclampsaturatestepcrossdottransposefrexpldexpbitcastpack4x8snormpack4x8unormpack4xI8pack4xI8Clamppack4xU8pack4xU8Clamppack2x16snormpack2x16unormpack2x16floatunpack4x8snormunpack4x8unormunpack4xI8unpack4xU8unpack2x16snormunpack2x16unormunpack2x16float";
+const TEXT: [u8; 345] =
+    *b"allanyselectabssigncountLeadingZeroscountOneBitscountTrailingZerosminmaxclampsaturatestepcrossdottransposefrexpldexpbitcastpack4x8snormpack4x8unormpack4xI8pack4xI8Clamppack4xU8pack4xU8Clamppack2x16snormpack2x16unormpack2x16floatunpack4x8snormunpack4x8unormunpack4xI8unpack4xU8unpack2x16snormunpack2x16unormunpack2x16floatfloorceiltruncroundfract";
 
-const STARTS: [u16; 37] = [
+const STARTS: [u16; 42] = [
     0,
     0,
     3,
@@ -48,11 +48,16 @@ const STARTS: [u16; 37] = [
     291,
     306,
     321,
+    326,
+    330,
+    335,
+    340,
+    345,
 ];
 
 // At each slot the number of the one builtin whose name has it, and 0, Unknown's, where none has.
 const PLACES: [u8; 128] =
-    *b"\x02\x1d\0\x0a\0\x06\x07\x08\0\0\0\x09\0\0\0\x15\0\0\x12\x1e\0\0\0\0\0\0\0\x0b\0\0\0\0\0\x0e\0\0\x1c\x0f\0\0\x23\0\x1a\0\0\0\x21\0\0\0\0\x10\0\0\0\0\0\0\0\x13\x1b\x17\0\x16\x22\0\0\x1f\x0c\0\0\0\0\0\x11\x18\0\0\0\x20\0\x0d\0\x05\0\x03\0\0\0\0\0\0\0\0\0\0\0\x19\0\0\0\0\0\0\0\0\0\0\0\0\0\0\0\0\0\0\x04\0\0\0\0\0\0\0\0\x14\x01\0";
+    *b"\x02\x1d\0\x0a\0\x06\x07\x08\0\0\0\x09\0\0\0\x15\0\0\x12\x1e\0\x25\0\0\0\0\0\x0b\0\0\0\0\0\x0e\0\0\x1c\x0f\0\0\x23\0\x1a\0\0\0\x21\0\0\0\0\x10\0\x28\0\0\0\0\0\x13\x1b\x17\0\x16\x22\x24\0\x1f\x0c\0\0\0\0\0\x11\x18\0\0\0\x20\x27\x0d\0\x05\0\x03\0\0\0\0\0\0\0\0\0\0\0\x19\0\0\0\0\0\0\x26\0\0\0\0\0\0\0\0\0\0\0\x04\0\0\0\0\0\0\0\0\x14\x01\0";
 
 // A slot that no name has.
 const FREE: usize = 127;
@@ -70,7 +75,7 @@ fn wide_start(x: u16) -> usize
 }
 
 fn start_of(i: usize) -> usize
-    requires { ⌜ i < 37 ⌝ }
+    requires { ⌜ i < 42 ⌝ }
     ensures { λ r. ⌜ r ≡ start i ⌝ }
 {
     wide_start(STARTS[i])
@@ -78,7 +83,7 @@ fn start_of(i: usize) -> usize
 
 fn place_at(h: usize) -> usize
     requires { ⌜ h < 128 ⌝ }
-    ensures { λ r. ⌜ (r ≡ place h) × (r < 36) ⌝ }
+    ensures { λ r. ⌜ (r ≡ place h) × (r < 41) ⌝ }
 {
     wide(PLACES[h])
 }
@@ -103,7 +108,7 @@ fn slot_of(s: &[u8]) -> usize
 
 // Whether s is the name of the builtin of a number.
 fn named(i: usize, s: &[u8]) -> bool
-    requires { ⌜ i < 36 ⌝ }
+    requires { ⌜ i < 41 ⌝ }
     ensures { λ r. ⌜ r ≡ sameBytes (nameOf (builtinAt i)) (now (s .entry)) ⌝ }
 {
     let start = start_of(i);

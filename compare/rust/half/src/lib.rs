@@ -2,8 +2,9 @@
 //!
 //! The crate's own: every conversion (its software path), comparison, `signum`, the bytes.
 //! Decided here: `abs` clears the sign bit, as document 01 says; `is_zero` is the crate's comparison with zero.
-//! All other arithmetic goes through f32 and is rounded back. No call of document 01's domain reaches it: f16 in
-//! min, max, clamp, saturate, cross, dot and ldexp is outside, and the rest serves builtins that no line names.
+//! All other arithmetic goes through f32 and is rounded back, as half's own does. Of the domain only floor, ceil, trunc
+//! and the subtraction of fract reach it: f16 in min, max, clamp, saturate, cross, dot and ldexp is outside, and the
+//! rest serves builtins that no line names.
 
 #![allow(non_camel_case_types)]
 
@@ -219,7 +220,7 @@ impl Real for f16 {
 }
 
 /// `round_ties_even` for compilers older than 1.77; a later compiler's own method comes before it.
-/// Only the builtin round calls it, and no line names that.
+/// Only the builtin round calls it.
 pub trait RoundTiesEven {
     fn round_ties_even(self) -> Self;
 }
@@ -230,7 +231,7 @@ macro_rules! round_ties_even {
             fn round_ties_even(self) -> $float {
                 let rounded = self.round();
                 if (self - self.trunc()).abs() == 0.5 && rounded % 2.0 != 0.0 {
-                    rounded - self.signum()
+                    (rounded - self.signum()).copysign(self)
                 } else {
                     rounded
                 }

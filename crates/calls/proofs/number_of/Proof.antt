@@ -1,4 +1,4 @@
--- Each number's builtin is the one that it is given for, and there are 36 of them. Assumes nothing.
+-- Each number's builtin is the one that it is given for, and there are 41 of them. Assumes nothing.
 use mathlib.Core.Path.{sym}
 use native.Mathlib.Omega.{arith}
 use borrow.Author.Needs.{needs}
@@ -15,6 +15,7 @@ number-of-spec =
     (λ c. search needs) (λ c. search needs) (λ c. search needs) (λ c. search needs) (λ c. search needs) (λ c. search needs) (λ c. search needs) (λ c. search needs) (λ c. search needs)
     (λ c. search needs) (λ c. search needs) (λ c. search needs) (λ c. search needs) (λ c. search needs) (λ c. search needs) (λ c. search needs) (λ c. search needs) (λ c. search needs)
     (λ c. search needs) (λ c. search needs) (λ c. search needs) (λ c. search needs) (λ c. search needs) (λ c. search needs) (λ c. search needs) (λ c. search needs) (λ c. search needs)
+    (λ c. search needs) (λ c. search needs) (λ c. search needs) (λ c. search needs) (λ c. search needs)
     (λ c. (sym (c .enum-told .given .1), omega arith)) (λ c. (sym (c .enum-told2 .given .1), omega arith)) (λ c. (sym (c .enum-told3 .given .1), omega arith)) (λ c. (sym (c .enum-told4 .given .1), omega arith))
     (λ c. (sym (c .enum-told5 .given .1), omega arith)) (λ c. (sym (c .enum-told6 .given .1), omega arith)) (λ c. (sym (c .enum-told7 .given .1), omega arith)) (λ c. (sym (c .enum-told8 .given .1), omega arith))
     (λ c. (sym (c .enum-told9 .given .1), omega arith)) (λ c. (sym (c .enum-told10 .given .1), omega arith)) (λ c. (sym (c .enum-told11 .given .1), omega arith)) (λ c. (sym (c .enum-told12 .given .1), omega arith))
@@ -23,4 +24,6 @@ number-of-spec =
     (λ c. (sym (c .enum-told21 .given .1), omega arith)) (λ c. (sym (c .enum-told22 .given .1), omega arith)) (λ c. (sym (c .enum-told23 .given .1), omega arith)) (λ c. (sym (c .enum-told24 .given .1), omega arith))
     (λ c. (sym (c .enum-told25 .given .1), omega arith)) (λ c. (sym (c .enum-told26 .given .1), omega arith)) (λ c. (sym (c .enum-told27 .given .1), omega arith)) (λ c. (sym (c .enum-told28 .given .1), omega arith))
     (λ c. (sym (c .enum-told29 .given .1), omega arith)) (λ c. (sym (c .enum-told30 .given .1), omega arith)) (λ c. (sym (c .enum-told31 .given .1), omega arith)) (λ c. (sym (c .enum-told32 .given .1), omega arith))
-    (λ c. (sym (c .enum-told33 .given .1), omega arith)) (λ c. (sym (c .enum-told34 .given .1), omega arith)) (λ c. (sym (c .enum-told35 .given .1), omega arith)) (λ c. (sym (c .enum-told36 .given .1), omega arith)))
+    (λ c. (sym (c .enum-told33 .given .1), omega arith)) (λ c. (sym (c .enum-told34 .given .1), omega arith)) (λ c. (sym (c .enum-told35 .given .1), omega arith)) (λ c. (sym (c .enum-told36 .given .1), omega arith))
+    (λ c. (sym (c .enum-told37 .given .1), omega arith)) (λ c. (sym (c .enum-told38 .given .1), omega arith)) (λ c. (sym (c .enum-told39 .given .1), omega arith)) (λ c. (sym (c .enum-told40 .given .1), omega arith))
+    (λ c. (sym (c .enum-told41 .given .1), omega arith)))

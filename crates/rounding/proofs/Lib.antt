@@ -1,0 +1,6 @@
+pub mod Ways
+pub mod Results
+pub mod Digits
+pub mod Nearby
+pub mod Subtraction
+pub mod Laws
