@@ -39,6 +39,18 @@ enum chanrelout_refusal {
     CHANRELOUT_TOO_MANY_LINES = 17  /* the listing has more than 512 lines */
 };
 
+/* ---- readings
+
+   A call is folded in the crate's reading, or in the text's: there pack4xI8Clamp and pack4xU8Clamp clamp each lane, and
+   the four norm packers round down the exact 0.5 + scale * clamped lane, as the WGSL specification writes them. All else
+   is the same. The functions that take a reading refuse any other number with CHANRELOUT_UNKNOWN_BUILTIN, before they
+   look at anything else; those that take none fold in the crate's. */
+
+enum chanrelout_reading {
+    CHANRELOUT_CRATE = 0, /* as wgsl-types 0.3.2 and foldlines */
+    CHANRELOUT_TEXT = 1   /* as the WGSL specification and foldtext */
+};
+
 /* ---- lines: a call spelled as text
 
    line     the call: the builtin's name and its arguments, a tab before each. A value is its type, a colon, and its
@@ -52,6 +64,9 @@ enum chanrelout_refusal {
 #define CHANRELOUT_LONGEST_ANSWER 311
 
 uint64_t chanrelout_line(const uint8_t *line, size_t line_len, uint8_t *out, size_t out_len);
+
+/* The same in a reading, a number of enum chanrelout_reading. */
+uint64_t chanrelout_line_in(uint64_t reading, const uint8_t *line, size_t line_len, uint8_t *out, size_t out_len);
 
 static inline enum chanrelout_refusal chanrelout_line_refusal(uint64_t answer)
 {
@@ -113,11 +128,22 @@ enum chanrelout_loss {
 
 uint8_t chanrelout_call(const uint64_t *call, size_t call_len, uint64_t *out, size_t out_len);
 
+/* The same in a reading, a number of enum chanrelout_reading. */
+uint8_t chanrelout_call_in(uint64_t reading, const uint64_t *call, size_t call_len, uint64_t *out, size_t out_len);
+
 /* The same for a record. */
 static inline enum chanrelout_refusal chanrelout_fold(const struct chanrelout_call *call, struct chanrelout_answer *out)
 {
     return (enum chanrelout_refusal)chanrelout_call((const uint64_t *)call, sizeof *call / 8, (uint64_t *)out,
                                                     sizeof *out / 8);
+}
+
+static inline enum chanrelout_refusal chanrelout_fold_in(enum chanrelout_reading reading,
+                                                         const struct chanrelout_call *call,
+                                                         struct chanrelout_answer *out)
+{
+    return (enum chanrelout_refusal)chanrelout_call_in((uint64_t)reading, (const uint64_t *)call, sizeof *call / 8,
+                                                       (uint64_t *)out, sizeof *out / 8);
 }
 
 /* Types. A vector's number is CHANRELOUT_VECTOR of its lanes (2 to 4) and its scalar, a matrix's CHANRELOUT_MATRIX of

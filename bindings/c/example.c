@@ -1,4 +1,4 @@
-/* Packs a colour, unpacks it again, tells what halves lost, folds a line, reads and writes a value and puts values and
+/* Packs a colour, in both readings too, unpacks it again, tells what halves lost, folds a line, reads and writes a value and puts values and
    lines in order: ./run builds and runs this. */
 
 #include "chanrelout.h"
@@ -73,6 +73,22 @@ int main(void)
         return 1;
     }
     print_value("packed", &packed.first, 1);
+
+    /* A lane that the two readings pack to different codes, as a record and as a line; a third reading there is none. */
+    struct chanrelout_call close = pack;
+    close.arguments[0].lanes[0] = 0x3B008080;
+    struct chanrelout_answer read;
+    const char *same = "pack4x8unorm\tvec4<f32>:3B008080,3F000000,00000000,BF800000";
+    for (uint64_t reading = CHANRELOUT_CRATE; reading <= CHANRELOUT_TEXT; reading++) {
+        char text[CHANRELOUT_LONGEST_ANSWER];
+        if (chanrelout_fold_in((enum chanrelout_reading)reading, &close, &read) != CHANRELOUT_ANSWERED)
+            return 1;
+        print_value(reading == CHANRELOUT_TEXT ? "the text's" : "the crate's", &read.first, 1);
+        uint64_t line_read = chanrelout_line_in(reading, (const uint8_t *)same, strlen(same), (uint8_t *)text, sizeof text);
+        printf("%-16s %.*s\n", "as a line", (int)chanrelout_line_length(line_read), text);
+    }
+    printf("%-16s %d\n", "a third reading", chanrelout_call_in(2, (const uint64_t *)&close, sizeof close / 8,
+                                                              (uint64_t *)&read, sizeof read / 8));
 
     /* What it gave is the next call's argument as it stands. */
     struct chanrelout_call unpack = {.builtin = CHANRELOUT_UNPACK4X8UNORM, .count = 1};

@@ -1,9 +1,9 @@
 #!/usr/bin/env python3
-"""fold.py <lines >answers
+"""fold.py [--text] <lines >answers
 
-Answers each line of standard input as foldlines must: a reading of docs/01-scope.md and of Q-2 and Q-3 in
-docs/02-change-requests.md, with docs/DECISIONS.md where they leave a choice, written from their words and not from the
-proved code. "01", "Q-2" and "Q-3" below are those.
+Answers each line of standard input as foldlines must, or with --text as foldtext must: a reading of docs/01-scope.md and
+of Q-1, Q-2 and Q-3 in docs/02-change-requests.md, with docs/DECISIONS.md where they leave a choice, written from their
+words and not from the proved code. "01", "Q-1", "Q-2" and "Q-3" below are those.
 
 A lane is its bits. What is worked out is worked out in whole numbers and exact fractions, never in floats:
 `Format.number` says which number a float's bits are, and `Format.rounded` alone turns a number into a float's bits.
@@ -300,6 +300,15 @@ def norm_code(lane, low, scale):
     return F32.number(F32.plus(scaled, F32.rounded(Fraction(1, 2)))) // 1
 
 
+def exact_norm_code(lane, low, scale):
+    """Q-1, the text's reading: the exact value of 0.5 + scale times the lane, clamped to [low, 1], rounded down."""
+    if F32.is_nan(lane):
+        return 0
+    negative = bool(lane & F32.sign)
+    lane = (low if negative else 1) if F32.is_infinite(lane) else max(low, min(F32.number(lane), 1))
+    return (Fraction(1, 2) + scale * lane) // 1
+
+
 def converted(bits, source, target):
     """A float of one format in another."""
     if source.is_nan(bits):
@@ -314,8 +323,13 @@ def word_of(lanes, width, code):
     return [Value(Type('u32'), (joined(map(code, lanes), width),))]
 
 
-def packs_norm(width, low, scale):
-    return lambda value: word_of(value.lanes, width, lambda lane: norm_code(lane, low, scale))
+def packs_norm(width, low, scale, code=norm_code):
+    return lambda value: word_of(value.lanes, width, lambda lane: code(lane, low, scale))
+
+
+def packs_clamped(clamped):
+    """Q-1, the text's reading: each lane clamped, and kept apart."""
+    return lambda value: word_of(value.lanes, 8, clamped)
 
 
 def packs_halves(value):
@@ -494,6 +508,16 @@ BUILTINS = {
     'fract': Builtin((FLOATS,), by_lane(fract_of)),
 }
 
+# In the text's reading these six are others.
+TEXT_BUILTINS = BUILTINS | {
+    'pack4x8snorm': Builtin((VEC4_F32,), packs_norm(8, -1, 127, exact_norm_code)),
+    'pack4x8unorm': Builtin((VEC4_F32,), packs_norm(8, 0, 255, exact_norm_code)),
+    'pack4xI8Clamp': Builtin((VEC4_I32,), packs_clamped(lambda lane: max(-128, min(signed(lane), 127)))),
+    'pack4xU8Clamp': Builtin((VEC4_U32,), packs_clamped(lambda lane: min(lane, 255))),
+    'pack2x16snorm': Builtin((VEC2_F32,), packs_norm(16, -1, 32767, exact_norm_code)),
+    'pack2x16unorm': Builtin((VEC2_F32,), packs_norm(16, 0, 65535, exact_norm_code)),
+}
+
 # ---- lines: one character for each byte
 
 LONGEST_LINE = 400
@@ -541,14 +565,14 @@ def lane_faults(type, text, place):
         yield WRONG_LANE_COUNT, place - 1
 
 
-def fold(line):
+def fold(line, builtins):
     """The values that a line is answered by."""
     if len(line) > LONGEST_LINE:
         raise Refused(7)
     name, *fields = line.split('\t')
-    if name not in BUILTINS:
+    if name not in builtins:
         raise Refused(1)
-    builtin = BUILTINS[name]
+    builtin = builtins[name]
     if len(fields) != len(builtin.takes):
         raise Refused(2)
     arguments, types, place = [], [], len(name) + 2
@@ -569,18 +593,19 @@ def fold(line):
     return builtin.fold(*arguments)
 
 
-def answer(line):
+def answer(line, builtins):
     try:
-        return '\t'.join(map(str, fold(line)))
+        return '\t'.join(map(str, fold(line, builtins)))
     except Refused as refused:
         return '\t'.join(map(str, ('refused', *refused.args)))
 
 
 def main():
+    builtins = {(): BUILTINS, ('--text',): TEXT_BUILTINS}[tuple(sys.argv[1:])]
     for line in sys.stdin.buffer:
         if line.endswith(b'\n'):
             line = line[:-1]
-        print(answer(line.decode('latin-1')))
+        print(answer(line.decode('latin-1'), builtins))
 
 
 if __name__ == '__main__':

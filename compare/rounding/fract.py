@@ -49,7 +49,7 @@ def main():
         count = differing = 0
         for line, answer in zip(calls, answers, strict=True):
             line, answer, count = line.rstrip('\n'), answer.rstrip('\n'), count + 1
-            exact = fold.answer(line)
+            exact = fold.answer(line, fold.BUILTINS)
             if answer != exact:
                 differing += 1
                 if differing <= 20:

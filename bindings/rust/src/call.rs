@@ -1,4 +1,4 @@
-use crate::{ffi, value::VALUE_WORDS, Builtin, Loss, Refusal, Type, Value};
+use crate::{ffi, value::VALUE_WORDS, Builtin, Loss, Reading, Refusal, Type, Value};
 
 const SLOTS: usize = 3;
 const HEAD_WORDS: usize = 3;
@@ -16,6 +16,15 @@ pub const ANSWER_WORDS: usize = 2 * VALUE_WORDS + 1;
 pub fn fold_words(call: &[u64], out: &mut [u64]) -> Result<(), Refusal> {
     // SAFETY: each pointer and length are those of a slice, and a shared and an exclusive one do not overlap.
     let number = unsafe { ffi::chanrelout_call(call.as_ptr(), call.len(), out.as_mut_ptr(), out.len()) };
+    Refusal::from_number(number).map_or(Ok(()), Err)
+}
+
+/// The same in a reading.
+#[inline]
+pub fn fold_words_in(reading: Reading, call: &[u64], out: &mut [u64]) -> Result<(), Refusal> {
+    // SAFETY: each pointer and length are those of a slice, and a shared and an exclusive one do not overlap.
+    let number =
+        unsafe { ffi::chanrelout_call_in(reading.number(), call.as_ptr(), call.len(), out.as_mut_ptr(), out.len()) };
     Refusal::from_number(number).map_or(Ok(()), Err)
 }
 
@@ -71,13 +80,26 @@ impl Call {
     pub fn fold(&self) -> Result<Answer, Refusal> {
         let mut out = [0; ANSWER_WORDS];
         fold_words(self.words(), &mut out)?;
-        let (first, rest) = out.split_at(VALUE_WORDS);
+        Ok(Answer::of_words(&out))
+    }
+
+    /// What the call gives in a reading.
+    pub fn fold_in(&self, reading: Reading) -> Result<Answer, Refusal> {
+        let mut out = [0; ANSWER_WORDS];
+        fold_words_in(reading, self.words(), &mut out)?;
+        Ok(Answer::of_words(&out))
+    }
+}
+
+impl Answer {
+    fn of_words(words: &[u64; ANSWER_WORDS]) -> Answer {
+        let (first, rest) = words.split_at(VALUE_WORDS);
         let (second, loss) = rest.split_at(VALUE_WORDS);
-        Ok(Answer {
+        Answer {
             first: Value::of_words(first).expect("an answer's first value has a type"),
             second: Value::of_words(second),
             loss: Loss::from_number(loss[0]),
-        })
+        }
     }
 }
 
@@ -86,9 +108,49 @@ pub fn fold(builtin: Builtin, arguments: &[Value]) -> Result<Answer, Refusal> {
     Call::new(builtin, arguments).fold()
 }
 
+/// The same in a reading.
+pub fn fold_in(reading: Reading, builtin: Builtin, arguments: &[Value]) -> Result<Answer, Refusal> {
+    Call::new(builtin, arguments).fold_in(reading)
+}
+
 #[cfg(test)]
 mod tests {
     use super::*;
+
+    #[test]
+    fn readings_differ_in_six_packers() {
+        let texts = |words: u32| Value::from(words);
+        let close = f32::from_bits(0x3B00_8080);
+        for (builtin, argument, crates, text) in [
+            (Builtin::Pack4x8unorm, Value::from([close, 0.0, 0.0, 0.0]), texts(1), texts(0)),
+            (Builtin::Pack4x8snorm, Value::from([f32::from_bits(0x3B81_0204), 0.0, 0.0, 0.0]), texts(1), texts(0)),
+            (Builtin::Pack2x16unorm, Value::from([f32::from_bits(0x3700_0080), 0.0]), texts(1), texts(0)),
+            (Builtin::Pack2x16snorm, Value::from([f32::from_bits(0x3780_0100), 0.0]), texts(1), texts(0)),
+            (Builtin::Pack4xI8Clamp, Value::from([-1, 0, 128, -129]), texts(0xFFFF_FFFF), texts(0x807F_00FF)),
+            (Builtin::Pack4xU8Clamp, Value::from([256u32, 1, 2, 3]), texts(0x0302_0100), texts(0x0302_01FF)),
+            (Builtin::Pack4xU8, Value::from([256u32, 1, 2, 3]), texts(0x0302_0100), texts(0x0302_0100)),
+        ] {
+            let call = Call::new(builtin, &[argument]);
+            assert_eq!(call.fold().unwrap().first, crates, "{builtin}");
+            assert_eq!(call.fold_in(Reading::Crate), call.fold());
+            assert_eq!(call.fold_in(Reading::Text).unwrap().first, text, "{builtin}");
+        }
+        assert_eq!(Reading::default(), Reading::Crate);
+    }
+
+    #[test]
+    fn a_number_that_is_no_reading_is_refused() {
+        let call = Call::new(Builtin::Abs, &[Value::from(1.0f32)]);
+        for reading in [2, u64::MAX] {
+            let mut out = [7; ANSWER_WORDS];
+            let words = call.words();
+            // SAFETY: each pointer and length are those of a slice, and they do not overlap.
+            let number =
+                unsafe { ffi::chanrelout_call_in(reading, words.as_ptr(), words.len(), out.as_mut_ptr(), out.len()) };
+            assert_eq!(number, 1);
+            assert_eq!(out, [7; ANSWER_WORDS]);
+        }
+    }
 
     /// What words are refused by; memory lent to a refused call stays.
     fn refused(words: &[u64], room: usize) -> Option<Refusal> {

@@ -2,13 +2,18 @@
 //! are proved to meet their statements. What each builtin takes and gives is document 01 of that repository.
 //!
 //! ```
-//! use chanrelout::{fold, fold_line, sort_listing, Builtin, Loss, Refusal, Value};
+//! use chanrelout::{fold, fold_in, fold_line, sort_listing, Builtin, Loss, Reading, Refusal, Value};
 //!
 //! let colour = Value::from([1.0f32, 0.5, 0.0, -1.0]);
 //! let packed = fold(Builtin::Pack4x8unorm, &[colour])?.first;
 //! assert_eq!(packed, Value::from(0x0000_80FFu32));
 //! assert_eq!(packed.to_string(), "u32:000080FF");
 //! assert_eq!("u32:000080FG".parse::<Value>().map_err(|wrong| wrong.place), Err(12));
+//!
+//! // The same call as the WGSL specification writes it: the text's reading clamps, the crate's keeps the low bytes.
+//! let bytes = [Value::from([256u32, 1, 2, 3])];
+//! assert_eq!(fold(Builtin::Pack4xU8Clamp, &bytes)?.first, Value::from(0x0302_0100u32));
+//! assert_eq!(fold_in(Reading::Text, Builtin::Pack4xU8Clamp, &bytes)?.first, Value::from(0x0302_01FFu32));
 //!
 //! // A number that is too large for a half becomes infinite, and the answer says so.
 //! assert_eq!(fold(Builtin::Pack2x16float, &[Value::from([0.5f32, 70000.0])])?.loss, Loss::Overflowed);
@@ -35,15 +40,17 @@ mod ffi;
 mod line;
 mod listing;
 mod loss;
+mod reading;
 mod refusal;
 mod value;
 
 pub use builtin::Builtin;
-pub use call::{fold, fold_words, Answer, Call, ANSWER_WORDS, CALL_WORDS};
+pub use call::{fold, fold_in, fold_words, fold_words_in, Answer, Call, ANSWER_WORDS, CALL_WORDS};
 pub use diff::{diff, first_difference, Difference, Differences, Kind};
-pub use line::{fold_line, fold_line_into, LONGEST_ANSWER};
+pub use line::{fold_line, fold_line_in, fold_line_into, fold_line_into_in, LONGEST_ANSWER};
 pub use listing::{sort_listing, sort_listing_into, LONGEST_LISTING, MOST_LINES};
 pub use loss::{f32_to_f16_told, Loss};
+pub use reading::Reading;
 pub use refusal::{InLine, Refusal};
 pub use value::{BadValue, Fault, Misspelled, Scalar, Size, Type, Value, Width};
 

@@ -1,4 +1,4 @@
-use crate::{ffi, refusal::written, Refusal};
+use crate::{ffi, refusal::written, Reading, Refusal};
 
 /// No answer has more bytes.
 pub const LONGEST_ANSWER: usize = 311;
@@ -16,5 +16,21 @@ pub fn fold_line(line: &[u8]) -> Result<String, Refusal> {
 pub fn fold_line_into<'a>(line: &[u8], out: &'a mut [u8]) -> Result<&'a [u8], Refusal> {
     // SAFETY: each pointer and length are those of a slice, and a shared and an exclusive one do not overlap.
     let answer = unsafe { ffi::chanrelout_line(line.as_ptr(), line.len(), out.as_mut_ptr(), out.len()) };
+    Ok(&out[..written(answer)?])
+}
+
+/// [`fold_line`] in a reading.
+pub fn fold_line_in(reading: Reading, line: &[u8]) -> Result<String, Refusal> {
+    let mut out = [0; LONGEST_ANSWER];
+    let answer = fold_line_into_in(reading, line, &mut out)?;
+    Ok(String::from_utf8(answer.to_vec()).expect("an answer is ASCII"))
+}
+
+/// [`fold_line_into`] in a reading.
+#[inline]
+pub fn fold_line_into_in<'a>(reading: Reading, line: &[u8], out: &'a mut [u8]) -> Result<&'a [u8], Refusal> {
+    // SAFETY: each pointer and length are those of a slice, and a shared and an exclusive one do not overlap.
+    let answer =
+        unsafe { ffi::chanrelout_line_in(reading.number(), line.as_ptr(), line.len(), out.as_mut_ptr(), out.len()) };
     Ok(&out[..written(answer)?])
 }

@@ -1,18 +1,24 @@
-//! Holds this crate to the program foldlines, on the lines that the repository's gate replays through it.
+//! Holds this crate to the programs foldlines and foldtext, on the lines that the repository's gate replays through them.
 
 mod common;
 
-use chanrelout::{fold_line, fold_line_into, Answer, Builtin, Call, Refusal, Type, Value, LONGEST_ANSWER};
+use chanrelout::{
+    fold_line, fold_line_in, fold_line_into, Answer, Builtin, Call, Reading, Refusal, Type, Value, LONGEST_ANSWER,
+};
 use common::{printed_by, split, stored};
 
-/// The lines, each with what foldlines prints for it.
-fn answered_lines() -> Vec<(Vec<u8>, Vec<u8>)> {
-    let input = stored("foldlines");
+/// The lines stored for a program, each with what the program prints for it.
+fn answered_by(program: &str) -> Vec<(Vec<u8>, Vec<u8>)> {
+    let input = stored(program);
     let lines = split(&input);
-    let answers = split(&printed_by("foldlines", &input));
+    let answers = split(&printed_by(program, &input));
     assert_eq!(lines.len(), answers.len());
-    assert!(lines.len() > 10_000);
+    assert!(lines.len() > 2_000);
     lines.into_iter().zip(answers).collect()
+}
+
+fn answered_lines() -> Vec<(Vec<u8>, Vec<u8>)> {
+    answered_by("foldlines")
 }
 
 /// As foldlines prints it.
@@ -50,6 +56,22 @@ fn lines_are_answered_as_by_foldlines() {
         let ours = printed(fold_line(&line));
         assert_eq!(ours.as_bytes(), answer, "{}", String::from_utf8_lossy(&line));
     }
+}
+
+#[test]
+fn lines_are_answered_as_by_foldtext() {
+    let mut others = 0;
+    for (line, answer) in answered_by("foldtext") {
+        let ours = printed(fold_line_in(Reading::Text, &line));
+        assert_eq!(ours.as_bytes(), answer, "{}", String::from_utf8_lossy(&line));
+        let crates = printed(fold_line_in(Reading::Crate, &line));
+        assert_eq!(crates, printed(fold_line(&line)));
+        others += usize::from(crates != ours);
+        if let Some(call) = call_of(&String::from_utf8_lossy(&line)) {
+            assert_eq!(printed(call.fold_in(Reading::Text).map(spelled)), ours);
+        }
+    }
+    assert!(others > 500);
 }
 
 #[test]

@@ -343,7 +343,9 @@ impl<W: Write> Lines<W> {
             if (127..150).contains(&exponent) {
                 let half = 1 << (149 - exponent);
                 for whole in [0, 2 * half, FRACTION & !(4 * half - 1), FRACTION & !(2 * half - 1)] {
-                    for near in [whole, whole.wrapping_sub(1), whole + 1, whole + half - 1, whole + half, whole + half + 1] {
+                    for near in
+                        [whole, whole.wrapping_sub(1), whole + 1, whole + half - 1, whole + half, whole + half + 1]
+                    {
                         fractions.push(near & FRACTION);
                     }
                 }

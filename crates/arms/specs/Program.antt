@@ -2,9 +2,9 @@
 use Prim.Native.Nat.{ℕ, _-_, min}
 use mathlib.Core.Bool.{Bool, true, false, not, cond}
 use mathlib.Core.List.{List, [], _∷_, _++_, map}
-use lib.Bits.{bitOr}
 use lib.Dec.{eqb}
 use lib.ListN.{take, getD}
+use Rattle.readings.specs.declared.Reading.{Reading}
 use Rattle.values.specs.declared.Scalar.{Scalar}
 use Rattle.values.specs.declared.Scalar.the-variants.{Boolean, I32, U32, F32, F16}
 use Rattle.values.specs.declared.Kind.the-variants.{One}
@@ -22,9 +22,8 @@ use Rattle.calls.specs.declared.Builtin.{Builtin}
 use Rattle.calls.specs.declared.Builtin.the-variants.{All, Any, Select, Abs, Sign, CountLeadingZeros, CountOneBits, CountTrailingZeros, Min, Max, Clamp, Saturate, Step, Cross, Dot, Transpose, Frexp, Ldexp, Bitcast, Pack4x8snorm, Pack4x8unorm, Pack4xI8, Pack4xI8Clamp, Pack4xU8, Pack4xU8Clamp, Pack2x16snorm, Pack2x16unorm, Pack2x16float, Unpack4x8snorm, Unpack4x8unorm, Unpack4xI8, Unpack4xU8, Unpack2x16snorm, Unpack2x16unorm, Unpack2x16float, Floor, Ceil, Trunc, Round, Fract, Unknown}
 use Rattle.packing.specs.declared.Coding8.the-variants as Of8
 use Rattle.packing.specs.declared.Coding16.the-variants as Of16
-use Rattle.packing.specs.Lanes.{fillingFrom}
 use Rattle.losses.specs.Losses.{largest}
-use Rattle.packing.specs.Program.{code8Of, lane8Of, code16Of, loss16Of, lane16Of}
+use Rattle.packing.specs.Program.{code8Of, lane8Of, code16Of, loss16Of, lane16Of, clampFour}
 use Rattle.arms.specs.declared.Outcome.{Outcome}
 use Rattle.moves.specs.Moves.{selectLane}
 use Rattle.moves.specs.Program.{recast}
@@ -65,49 +64,46 @@ crossFour x y =
     ∷ crossLane (getD x 2 0) (getD y 0 0) (getD x 0 0) (getD y 2 0)
     ∷ crossLane (getD x 0 0) (getD y 1 0) (getD x 1 0) (getD y 0 0) ∷ 0 ∷ []
 
-abbrev pub fillFour : List ℕ → ℕ
-fillFour x = bitOr (bitOr (bitOr (fillingFrom (getD x 0 0) 0) (fillingFrom (getD x 1 0) 1)) (fillingFrom (getD x 2 0) 2)) (fillingFrom (getD x 3 0) 3)
-
--- of the type field t, the first value of the type at p with the lanes x, the others b and c
-abbrev pub outcome : Builtin → Bool → ℕ → ℕ → List ℕ → Value → Value → Outcome
-outcome All ok t p x b c = givenOne ok 1 (flag (every (λ y. eqb y 1) (take (laneCount (kindAt p)) x)))
-outcome Any ok t p x b c = givenOne ok 1 (flag (not (every (λ y. eqb y 0) (take (laneCount (kindAt p)) x))))
-outcome Select ok t p x b c = given ok p (four3 selectLane x (cutOf b) (conditionOf c))
-outcome Abs ok t p x b c = given ok p (four (absLane (scalarOf (kindAt p))) x)
-outcome Sign ok t p x b c = given ok p (four (signLane (scalarOf (kindAt p))) x)
-outcome CountLeadingZeros ok t p x b c = given ok p (four leadingLane x)
-outcome CountOneBits ok t p x b c = given ok p (four onesLane x)
-outcome CountTrailingZeros ok t p x b c = given ok p (four trailingLane x)
-outcome Min ok t p x b c = given ok p (four2 (minLane (scalarOf (kindAt p))) x (cutOf b))
-outcome Max ok t p x b c = given ok p (four2 (maxLane (scalarOf (kindAt p))) x (cutOf b))
-outcome Clamp ok t p x b c = given ok p (four3 (clampLane (scalarOf (kindAt p))) x (cutOf b) (cutOf c))
-outcome Saturate ok t p x b c = given ok p (four saturateLane x)
-outcome Step ok t p x b c = given ok p (four2 (stepLane (scalarOf (kindAt p))) x (cutOf b))
-outcome Cross ok t p x b c = given ok p (crossFour x (cutOf b))
-outcome Dot ok t p x b c = givenOne ok (place (One (scalarOf (kindAt p)))) (dotLane (scalarOf (kindAt p)) (λ i. getD x i 0) (λ i. getD (cutOf b) i 0) (min (laneCount (kindAt p)) 4 - 1))
-outcome Transpose ok t p x b c = given ok p x
-outcome Frexp ok t p x b c = givenTwo ok p (four (fractionLane (scalarOf (kindAt p))) x) (place (shaped I32 (kindAt p))) (four (exponentLane (scalarOf (kindAt p))) x)
-outcome Ldexp ok t p x b c = given ok p (four2 ldexpLane x (cutOf b))
-outcome Bitcast ok t p x b c = given ok (place (kindAt t)) (recast (isHalf (scalarOf (kindAt p))) (isHalf (scalarOf (kindAt t))) x)
-outcome Pack4x8snorm ok t p x b c = givenOne ok 3 (joined 8 (four (code8Of Of8.Snorm) x))
-outcome Pack4x8unorm ok t p x b c = givenOne ok 3 (joined 8 (four (code8Of Of8.Unorm) x))
-outcome Pack4xI8 ok t p x b c = givenOne ok 3 (joined 8 (four (code8Of Of8.Signed) x))
-outcome Pack4xI8Clamp ok t p x b c = givenOne ok 3 (fillFour x)
-outcome Pack4xU8 ok t p x b c = givenOne ok 3 (joined 8 (four (code8Of Of8.Unsigned) x))
-outcome Pack4xU8Clamp ok t p x b c = givenOne ok 3 (joined 8 (four (code8Of Of8.Unsigned) x))
-outcome Pack2x16snorm ok t p x b c = givenOne ok 3 (joined 16 (take 2 (four (code16Of Of16.Snorm) x)))
-outcome Pack2x16unorm ok t p x b c = givenOne ok 3 (joined 16 (take 2 (four (code16Of Of16.Unorm) x)))
-outcome Pack2x16float ok t p x b c = givenWord ok (joined 16 (take 2 (four (code16Of Of16.Float) x))) (largest (take 2 (four (loss16Of Of16.Float) x)))
-outcome Unpack4x8snorm ok t p x b c = given ok 19 (map (lane8Of Of8.Snorm) (parts 8 4 (getD x 0 0)))
-outcome Unpack4x8unorm ok t p x b c = given ok 19 (map (lane8Of Of8.Unorm) (parts 8 4 (getD x 0 0)))
-outcome Unpack4xI8 ok t p x b c = given ok 17 (map (lane8Of Of8.Signed) (parts 8 4 (getD x 0 0)))
-outcome Unpack4xU8 ok t p x b c = given ok 18 (map (lane8Of Of8.Unsigned) (parts 8 4 (getD x 0 0)))
-outcome Unpack2x16snorm ok t p x b c = given ok 9 (map (lane16Of Of16.Snorm) (parts 16 2 (getD x 0 0)) ++ 0 ∷ 0 ∷ [])
-outcome Unpack2x16unorm ok t p x b c = given ok 9 (map (lane16Of Of16.Unorm) (parts 16 2 (getD x 0 0)) ++ 0 ∷ 0 ∷ [])
-outcome Unpack2x16float ok t p x b c = given ok 9 (map (lane16Of Of16.Float) (parts 16 2 (getD x 0 0)) ++ 0 ∷ 0 ∷ [])
-outcome Floor ok t p x b c = given ok p (four (wholeLane To.Floor (scalarOf (kindAt p))) x)
-outcome Ceil ok t p x b c = given ok p (four (wholeLane To.Ceil (scalarOf (kindAt p))) x)
-outcome Trunc ok t p x b c = given ok p (four (wholeLane To.Trunc (scalarOf (kindAt p))) x)
-outcome Round ok t p x b c = given ok p (four (wholeLane To.Round (scalarOf (kindAt p))) x)
-outcome Fract ok t p x b c = given ok p (four (fractLane (scalarOf (kindAt p))) x)
-outcome Unknown ok t p x b c = given ok p x
+-- in the reading r, of the type field t, the first value of the type at p with the lanes x, the others b and c. The reading tells only in six packers: what a function of another works out is stated in the crate's.
+abbrev pub outcome : Reading → Builtin → Bool → ℕ → ℕ → List ℕ → Value → Value → Outcome
+outcome r All ok t p x b c = givenOne ok 1 (flag (every (λ y. eqb y 1) (take (laneCount (kindAt p)) x)))
+outcome r Any ok t p x b c = givenOne ok 1 (flag (not (every (λ y. eqb y 0) (take (laneCount (kindAt p)) x))))
+outcome r Select ok t p x b c = given ok p (four3 selectLane x (cutOf b) (conditionOf c))
+outcome r Abs ok t p x b c = given ok p (four (absLane (scalarOf (kindAt p))) x)
+outcome r Sign ok t p x b c = given ok p (four (signLane (scalarOf (kindAt p))) x)
+outcome r CountLeadingZeros ok t p x b c = given ok p (four leadingLane x)
+outcome r CountOneBits ok t p x b c = given ok p (four onesLane x)
+outcome r CountTrailingZeros ok t p x b c = given ok p (four trailingLane x)
+outcome r Min ok t p x b c = given ok p (four2 (minLane (scalarOf (kindAt p))) x (cutOf b))
+outcome r Max ok t p x b c = given ok p (four2 (maxLane (scalarOf (kindAt p))) x (cutOf b))
+outcome r Clamp ok t p x b c = given ok p (four3 (clampLane (scalarOf (kindAt p))) x (cutOf b) (cutOf c))
+outcome r Saturate ok t p x b c = given ok p (four saturateLane x)
+outcome r Step ok t p x b c = given ok p (four2 (stepLane (scalarOf (kindAt p))) x (cutOf b))
+outcome r Cross ok t p x b c = given ok p (crossFour x (cutOf b))
+outcome r Dot ok t p x b c = givenOne ok (place (One (scalarOf (kindAt p)))) (dotLane (scalarOf (kindAt p)) (λ i. getD x i 0) (λ i. getD (cutOf b) i 0) (min (laneCount (kindAt p)) 4 - 1))
+outcome r Transpose ok t p x b c = given ok p x
+outcome r Frexp ok t p x b c = givenTwo ok p (four (fractionLane (scalarOf (kindAt p))) x) (place (shaped I32 (kindAt p))) (four (exponentLane (scalarOf (kindAt p))) x)
+outcome r Ldexp ok t p x b c = given ok p (four2 ldexpLane x (cutOf b))
+outcome r Bitcast ok t p x b c = given ok (place (kindAt t)) (recast (isHalf (scalarOf (kindAt p))) (isHalf (scalarOf (kindAt t))) x)
+outcome r Pack4x8snorm ok t p x b c = givenOne ok 3 (joined 8 (four (code8Of r Of8.Snorm) x))
+outcome r Pack4x8unorm ok t p x b c = givenOne ok 3 (joined 8 (four (code8Of r Of8.Unorm) x))
+outcome r Pack4xI8 ok t p x b c = givenOne ok 3 (joined 8 (four (code8Of r Of8.Signed) x))
+outcome r Pack4xI8Clamp ok t p x b c = givenOne ok 3 (clampFour r x)
+outcome r Pack4xU8 ok t p x b c = givenOne ok 3 (joined 8 (four (code8Of r Of8.Unsigned) x))
+outcome r Pack4xU8Clamp ok t p x b c = givenOne ok 3 (joined 8 (four (code8Of r Of8.ClampedUnsigned) x))
+outcome r Pack2x16snorm ok t p x b c = givenOne ok 3 (joined 16 (take 2 (four (code16Of r Of16.Snorm) x)))
+outcome r Pack2x16unorm ok t p x b c = givenOne ok 3 (joined 16 (take 2 (four (code16Of r Of16.Unorm) x)))
+outcome r Pack2x16float ok t p x b c = givenWord ok (joined 16 (take 2 (four (code16Of r Of16.Float) x))) (largest (take 2 (four (loss16Of Of16.Float) x)))
+outcome r Unpack4x8snorm ok t p x b c = given ok 19 (map (lane8Of Of8.Snorm) (parts 8 4 (getD x 0 0)))
+outcome r Unpack4x8unorm ok t p x b c = given ok 19 (map (lane8Of Of8.Unorm) (parts 8 4 (getD x 0 0)))
+outcome r Unpack4xI8 ok t p x b c = given ok 17 (map (lane8Of Of8.Signed) (parts 8 4 (getD x 0 0)))
+outcome r Unpack4xU8 ok t p x b c = given ok 18 (map (lane8Of Of8.Unsigned) (parts 8 4 (getD x 0 0)))
+outcome r Unpack2x16snorm ok t p x b c = given ok 9 (map (lane16Of Of16.Snorm) (parts 16 2 (getD x 0 0)) ++ 0 ∷ 0 ∷ [])
+outcome r Unpack2x16unorm ok t p x b c = given ok 9 (map (lane16Of Of16.Unorm) (parts 16 2 (getD x 0 0)) ++ 0 ∷ 0 ∷ [])
+outcome r Unpack2x16float ok t p x b c = given ok 9 (map (lane16Of Of16.Float) (parts 16 2 (getD x 0 0)) ++ 0 ∷ 0 ∷ [])
+outcome r Floor ok t p x b c = given ok p (four (wholeLane To.Floor (scalarOf (kindAt p))) x)
+outcome r Ceil ok t p x b c = given ok p (four (wholeLane To.Ceil (scalarOf (kindAt p))) x)
+outcome r Trunc ok t p x b c = given ok p (four (wholeLane To.Trunc (scalarOf (kindAt p))) x)
+outcome r Round ok t p x b c = given ok p (four (wholeLane To.Round (scalarOf (kindAt p))) x)
+outcome r Fract ok t p x b c = given ok p (four (fractLane (scalarOf (kindAt p))) x)
+outcome r Unknown ok t p x b c = given ok p x

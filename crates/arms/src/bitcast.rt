@@ -6,6 +6,7 @@ use calls::table::Shape;
 use judging::tests::casting;
 use places::known;
 use places::scalar_at;
+use readings::Reading;
 use values::Scalar;
 ghost use mathlib.Core.Path.{_≡_};
 ghost use Prim.Native.Nat.{_≤_};
@@ -30,7 +31,7 @@ fn is_half(s: Scalar) -> bool
 
 pub fn bitcast(w: &[u64], n: u64, p: u64, set: u64, x: [u32; 4]) -> Outcome
     requires { ⌜ First (now w) p × (set ≡ typesOf (takes Builtin.Bitcast)) × (3 ≤ length (now w)) ⌝ }
-    ensures { λ r. ⌜ r ≡ outcome Builtin.Bitcast (eqb (judgedIn Shape.Casting set n (now (w .entry))) 0) (getD (now (w .entry)) 2 0) p x emptyValue emptyValue ⌝ }
+    ensures { λ r. ⌜ r ≡ outcome Reading.Crate Builtin.Bitcast (eqb (judgedIn Shape.Casting set n (now (w .entry))) 0) (getD (now (w .entry)) 2 0) p x emptyValue emptyValue ⌝ }
 {
     let t = known(w[2]);
     let from = is_half(scalar_at(p));

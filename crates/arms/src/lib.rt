@@ -13,6 +13,7 @@ use calls::types_of;
 use judging::tests::one_value;
 use packing::Coding8;
 use packing::Coding16;
+use readings::Reading;
 use rounding::Way;
 ghost use mathlib.Core.Path.{_≡_};
 ghost use Prim.Native.Nat.{_≤_};
@@ -95,9 +96,9 @@ fn given_word(ok: bool, x: u32, loss: u8) -> Outcome
 }
 
 // The arm of each builtin. The one jump comes first; behind it each arm tests the call by the shape of its row and by the types of the row, a constant there.
-pub fn arm(which: Builtin, w: &[u64], p: u64, x: [u32; 4]) -> Outcome
+pub fn arm(reading: Reading, which: Builtin, w: &[u64], p: u64, x: [u32; 4]) -> Outcome
     requires { ⌜ (3 ≤ length (now w)) × First (now w) p ⌝ }
-    ensures { λ r. ⌜ r ≡ outcome which (eqb (judgedIn (shapeOf (takes which)) (typesOf (takes which)) (getD (now (w .entry)) 1 0) (now (w .entry))) 0)
+    ensures { λ r. ⌜ r ≡ outcome reading which (eqb (judgedIn (shapeOf (takes which)) (typesOf (takes which)) (getD (now (w .entry)) 1 0) (now (w .entry))) 0)
         (getD (now (w .entry)) 2 0) p x (valueAt (now (w .entry)) 20) (valueAt (now (w .entry)) 37) ⌝ }
 {
     let n = w[1];
@@ -140,6 +141,7 @@ pub fn arm(which: Builtin, w: &[u64], p: u64, x: [u32; 4]) -> Outcome
         Builtin::Ldexp => powers::ldexp(w, n, p, types_of(Builtin::Ldexp), x),
         Builtin::Bitcast => bitcast::bitcast(w, n, p, types_of(Builtin::Bitcast), x),
         Builtin::Pack4x8snorm => pack::pack8(
+            reading,
             w,
             n,
             p,
@@ -148,6 +150,7 @@ pub fn arm(which: Builtin, w: &[u64], p: u64, x: [u32; 4]) -> Outcome
             x,
         ),
         Builtin::Pack4x8unorm => pack::pack8(
+            reading,
             w,
             n,
             p,
@@ -155,9 +158,25 @@ pub fn arm(which: Builtin, w: &[u64], p: u64, x: [u32; 4]) -> Outcome
             Coding8::Unorm,
             x,
         ),
-        Builtin::Pack4xI8 => pack::pack8(w, n, p, types_of(Builtin::Pack4xI8), Coding8::Signed, x),
-        Builtin::Pack4xI8Clamp => pack::pack_filling(w, n, p, types_of(Builtin::Pack4xI8Clamp), x),
+        Builtin::Pack4xI8 => pack::pack8(
+            reading,
+            w,
+            n,
+            p,
+            types_of(Builtin::Pack4xI8),
+            Coding8::Signed,
+            x,
+        ),
+        Builtin::Pack4xI8Clamp => pack::pack_clamped(
+            reading,
+            w,
+            n,
+            p,
+            types_of(Builtin::Pack4xI8Clamp),
+            x,
+        ),
         Builtin::Pack4xU8 => pack::pack8(
+            reading,
             w,
             n,
             p,
@@ -166,14 +185,16 @@ pub fn arm(which: Builtin, w: &[u64], p: u64, x: [u32; 4]) -> Outcome
             x,
         ),
         Builtin::Pack4xU8Clamp => pack::pack8(
+            reading,
             w,
             n,
             p,
             types_of(Builtin::Pack4xU8Clamp),
-            Coding8::Unsigned,
+            Coding8::ClampedUnsigned,
             x,
         ),
         Builtin::Pack2x16snorm => pack::pack16(
+            reading,
             w,
             n,
             p,
@@ -182,6 +203,7 @@ pub fn arm(which: Builtin, w: &[u64], p: u64, x: [u32; 4]) -> Outcome
             x,
         ),
         Builtin::Pack2x16unorm => pack::pack16(
+            reading,
             w,
             n,
             p,
@@ -190,6 +212,7 @@ pub fn arm(which: Builtin, w: &[u64], p: u64, x: [u32; 4]) -> Outcome
             x,
         ),
         Builtin::Pack2x16float => pack::pack16(
+            reading,
             w,
             n,
             p,

@@ -7,6 +7,7 @@ use calls::Builtin;
 use calls::table::Shape;
 use judging::tests;
 use places::count_at;
+use readings::Reading;
 use words::cut_at;
 ghost use mathlib.Core.Path.{_≡_};
 ghost use lib.Dec.{eqb};
@@ -46,7 +47,7 @@ fn condition(w: &[u64]) -> [u32; 4]
 
 pub fn all(w: &[u64], n: u64, p: u64, set: u64, x: [u32; 4]) -> Outcome
     requires { ⌜ First (now w) p ⌝ }
-    ensures { λ r. ⌜ r ≡ outcome Builtin.All (eqb (judgedIn Shape.OneValue set n (now (w .entry))) 0) 0 p x emptyValue emptyValue ⌝ }
+    ensures { λ r. ⌜ r ≡ outcome Reading.Crate Builtin.All (eqb (judgedIn Shape.OneValue set n (now (w .entry))) 0) 0 p x emptyValue emptyValue ⌝ }
 {
     let ok = tests::one_value(w, n, p, set);
     given_one(ok, BOOL, flag_of(each_is(count_at(p), x, 1)))
@@ -54,7 +55,7 @@ pub fn all(w: &[u64], n: u64, p: u64, set: u64, x: [u32; 4]) -> Outcome
 
 pub fn any(w: &[u64], n: u64, p: u64, set: u64, x: [u32; 4]) -> Outcome
     requires { ⌜ First (now w) p ⌝ }
-    ensures { λ r. ⌜ r ≡ outcome Builtin.Any (eqb (judgedIn Shape.OneValue set n (now (w .entry))) 0) 0 p x emptyValue emptyValue ⌝ }
+    ensures { λ r. ⌜ r ≡ outcome Reading.Crate Builtin.Any (eqb (judgedIn Shape.OneValue set n (now (w .entry))) 0) 0 p x emptyValue emptyValue ⌝ }
 {
     let ok = tests::one_value(w, n, p, set);
     given_one(ok, BOOL, flag_of(!each_is(count_at(p), x, 0)))
@@ -62,7 +63,7 @@ pub fn any(w: &[u64], n: u64, p: u64, set: u64, x: [u32; 4]) -> Outcome
 
 pub fn select(w: &[u64], n: u64, p: u64, set: u64, x: [u32; 4]) -> Outcome
     requires { ⌜ First (now w) p ⌝ }
-    ensures { λ r. ⌜ r ≡ outcome Builtin.Select (eqb (judgedIn Shape.Selecting set n (now (w .entry))) 0) 0 p x (valueAt (now (w .entry)) 20) (valueAt (now (w .entry)) 37) ⌝ }
+    ensures { λ r. ⌜ r ≡ outcome Reading.Crate Builtin.Select (eqb (judgedIn Shape.Selecting set n (now (w .entry))) 0) 0 p x (valueAt (now (w .entry)) 20) (valueAt (now (w .entry)) 37) ⌝ }
 {
     let ok = tests::selecting(w, n, p, set);
     given(ok, p, moves::select_four(x, cut_at(w, 20), condition(w)))

@@ -9,6 +9,7 @@ use calls::table::Shape;
 use judging::tests::one_value;
 use packing::Coding8;
 use packing::Coding16;
+use readings::Reading;
 ghost use mathlib.Core.Path.{_≡_};
 ghost use mathlib.Core.List.{[], _∷_, _++_, map};
 ghost use lib.Dec.{eqb};
@@ -16,31 +17,51 @@ ghost use lib.ListN.{take, getD};
 ghost use Rattle.values.specs.Program.{four};
 ghost use Rattle.numeric.specs.Parts.{parts, joined};
 ghost use Rattle.losses.specs.Losses.{largest};
-ghost use Rattle.packing.specs.Program.{code8Of, lane8Of, code16Of, loss16Of, lane16Of};
+ghost use Rattle.packing.specs.Program.{code8Of, lane8Of, code16Of, loss16Of, lane16Of, clampFour};
 ghost use Rattle.calls.specs.Program.{judgedIn, First};
-ghost use Rattle.arms.specs.Program.{given, givenOne, givenWord, fillFour};
+ghost use Rattle.arms.specs.Program.{given, givenOne, givenWord};
 
-pub fn pack8(w: &[u64], n: u64, p: u64, set: u64, t: Coding8, x: [u32; 4]) -> Outcome
+pub fn pack8(
+    reading: Reading,
+    w: &[u64],
+    n: u64,
+    p: u64,
+    set: u64,
+    t: Coding8,
+    x: [u32; 4],
+) -> Outcome
     requires { ⌜ First (now w) p ⌝ }
-    ensures { λ r. ⌜ r ≡ givenOne (eqb (judgedIn Shape.OneValue set n (now (w .entry))) 0) 3 (joined 8 (four (code8Of t) x)) ⌝ }
+    ensures { λ r. ⌜ r ≡ givenOne (eqb (judgedIn Shape.OneValue set n (now (w .entry))) 0) 3 (joined 8 (four (code8Of reading t) x)) ⌝ }
 {
-    given_one(one_value(w, n, p, set), U32, packing::word8(t, x))
+    given_one(one_value(w, n, p, set), U32, packing::word8(reading, t, x))
 }
 
-pub fn pack16(w: &[u64], n: u64, p: u64, set: u64, t: Coding16, x: [u32; 4]) -> Outcome
+pub fn pack16(
+    reading: Reading,
+    w: &[u64],
+    n: u64,
+    p: u64,
+    set: u64,
+    t: Coding16,
+    x: [u32; 4],
+) -> Outcome
     requires { ⌜ First (now w) p ⌝ }
-    ensures { λ r. ⌜ r ≡ givenWord (eqb (judgedIn Shape.OneValue set n (now (w .entry))) 0) (joined 16 (take 2 (four (code16Of t) x))) (largest (take 2 (four (loss16Of t) x))) ⌝ }
+    ensures { λ r. ⌜ r ≡ givenWord (eqb (judgedIn Shape.OneValue set n (now (w .entry))) 0) (joined 16 (take 2 (four (code16Of reading t) x))) (largest (take 2 (four (loss16Of t) x))) ⌝ }
 {
-    let c = packing::word16(t, x);
+    let c = packing::word16(reading, t, x);
     given_word(one_value(w, n, p, set), c.word, c.loss)
 }
 
-// pack4xI8Clamp: a negative lane fills every lane above it.
-pub fn pack_filling(w: &[u64], n: u64, p: u64, set: u64, x: [u32; 4]) -> Outcome
+// pack4xI8Clamp: in the crate's reading a negative lane fills every lane above it.
+pub fn pack_clamped(reading: Reading, w: &[u64], n: u64, p: u64, set: u64, x: [u32; 4]) -> Outcome
     requires { ⌜ First (now w) p ⌝ }
-    ensures { λ r. ⌜ r ≡ givenOne (eqb (judgedIn Shape.OneValue set n (now (w .entry))) 0) 3 (fillFour x) ⌝ }
+    ensures { λ r. ⌜ r ≡ givenOne (eqb (judgedIn Shape.OneValue set n (now (w .entry))) 0) 3 (clampFour reading x) ⌝ }
 {
-    given_one(one_value(w, n, p, set), U32, packing::fill_word(x))
+    given_one(
+        one_value(w, n, p, set),
+        U32,
+        packing::clamped_word(reading, x),
+    )
 }
 
 // To the vector type at k.

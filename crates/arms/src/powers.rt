@@ -6,6 +6,7 @@ use calls::Builtin;
 use calls::table::Shape;
 use judging::tests;
 use places::scalar_at;
+use readings::Reading;
 use words::cut_at;
 ghost use mathlib.Core.Path.{_≡_};
 ghost use lib.Dec.{eqb};
@@ -17,7 +18,7 @@ ghost use Rattle.arms.specs.Program.{outcome};
 
 pub fn frexp(w: &[u64], n: u64, p: u64, set: u64, x: [u32; 4]) -> Outcome
     requires { ⌜ First (now w) p ⌝ }
-    ensures { λ r. ⌜ r ≡ outcome Builtin.Frexp (eqb (judgedIn Shape.OneValue set n (now (w .entry))) 0) 0 p x emptyValue emptyValue ⌝ }
+    ensures { λ r. ⌜ r ≡ outcome Reading.Crate Builtin.Frexp (eqb (judgedIn Shape.OneValue set n (now (w .entry))) 0) 0 p x emptyValue emptyValue ⌝ }
 {
     let s = scalar_at(p);
     let ok = tests::one_value(w, n, p, set);
@@ -28,7 +29,7 @@ pub fn frexp(w: &[u64], n: u64, p: u64, set: u64, x: [u32; 4]) -> Outcome
 
 pub fn ldexp(w: &[u64], n: u64, p: u64, set: u64, x: [u32; 4]) -> Outcome
     requires { ⌜ First (now w) p × (set ≡ typesOf (takes Builtin.Ldexp)) ⌝ }
-    ensures { λ r. ⌜ r ≡ outcome Builtin.Ldexp (eqb (judgedIn Shape.Scaling set n (now (w .entry))) 0) 0 p x (valueAt (now (w .entry)) 20) (valueAt (now (w .entry)) 37) ⌝ }
+    ensures { λ r. ⌜ r ≡ outcome Reading.Crate Builtin.Ldexp (eqb (judgedIn Shape.Scaling set n (now (w .entry))) 0) 0 p x (valueAt (now (w .entry)) 20) (valueAt (now (w .entry)) 37) ⌝ }
 {
     let ok = tests::scaling(w, n, p, set);
     given(ok, p, exponent::ldexp(x, cut_at(w, 20)))

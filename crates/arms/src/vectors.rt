@@ -7,6 +7,7 @@ use calls::table::Shape;
 use judging::tests::two_alike;
 use places::count_at;
 use places::scalar_at;
+use readings::Reading;
 use values::Kind;
 use words::cut_at;
 ghost use mathlib.Core.Path.{_≡_};
@@ -17,7 +18,7 @@ ghost use Rattle.arms.specs.Program.{outcome};
 
 pub fn cross(w: &[u64], n: u64, p: u64, set: u64, x: [u32; 4]) -> Outcome
     requires { ⌜ First (now w) p ⌝ }
-    ensures { λ r. ⌜ r ≡ outcome Builtin.Cross (eqb (judgedIn Shape.TwoAlike set n (now (w .entry))) 0) 0 p x (valueAt (now (w .entry)) 20) (valueAt (now (w .entry)) 37) ⌝ }
+    ensures { λ r. ⌜ r ≡ outcome Reading.Crate Builtin.Cross (eqb (judgedIn Shape.TwoAlike set n (now (w .entry))) 0) 0 p x (valueAt (now (w .entry)) 20) (valueAt (now (w .entry)) 37) ⌝ }
 {
     let ok = two_alike(w, n, p, set);
     given(ok, p, products::cross(x, cut_at(w, 20)))
@@ -25,7 +26,7 @@ pub fn cross(w: &[u64], n: u64, p: u64, set: u64, x: [u32; 4]) -> Outcome
 
 pub fn dot(w: &[u64], n: u64, p: u64, set: u64, x: [u32; 4]) -> Outcome
     requires { ⌜ First (now w) p ⌝ }
-    ensures { λ r. ⌜ r ≡ outcome Builtin.Dot (eqb (judgedIn Shape.TwoAlike set n (now (w .entry))) 0) 0 p x (valueAt (now (w .entry)) 20) (valueAt (now (w .entry)) 37) ⌝ }
+    ensures { λ r. ⌜ r ≡ outcome Reading.Crate Builtin.Dot (eqb (judgedIn Shape.TwoAlike set n (now (w .entry))) 0) 0 p x (valueAt (now (w .entry)) 20) (valueAt (now (w .entry)) 37) ⌝ }
 {
     let s = scalar_at(p);
     let ok = two_alike(w, n, p, set);

@@ -5,6 +5,7 @@ use calls::Builtin;
 use calls::table::Shape;
 use judging::tests::one_value;
 use places::scalar_at;
+use readings::Reading;
 use rounding::Way;
 ghost use mathlib.Core.Path.{_≡_};
 ghost use lib.Dec.{eqb};
@@ -27,7 +28,7 @@ pub fn whole(w: &[u64], n: u64, p: u64, set: u64, way: Way, x: [u32; 4]) -> Outc
 
 pub fn fract(w: &[u64], n: u64, p: u64, set: u64, x: [u32; 4]) -> Outcome
     requires { ⌜ First (now w) p ⌝ }
-    ensures { λ r. ⌜ r ≡ outcome Builtin.Fract (eqb (judgedIn Shape.OneValue set n (now (w .entry))) 0) 0 p x emptyValue emptyValue ⌝ }
+    ensures { λ r. ⌜ r ≡ outcome Reading.Crate Builtin.Fract (eqb (judgedIn Shape.OneValue set n (now (w .entry))) 0) 0 p x emptyValue emptyValue ⌝ }
 {
     given(one_value(w, n, p, set), p, rounding::fract(scalar_at(p), x))
 }

@@ -4,6 +4,7 @@ use mathlib.Core.Bool.{Bool, true, false≢true}
 use mathlib.Core.Path.{_≡_, refl}
 use native.Mathlib.Omega.{arith}
 use lib.ListN.{length}
+use Rattle.readings.specs.declared.Reading.{Reading}
 use Rattle.values.specs.declared.Scalar.the-variants.{I32, U32, F32}
 use Rattle.values.specs.declared.Size.the-variants.{Two, Three, Four}
 use Rattle.values.specs.declared.Kind.{Kind}
@@ -30,7 +31,7 @@ use Rattle.builtins.specs.Fold.{answerBy}
 use Rattle.arms.specs.Program.{cutOf, outcome}
 use Rattle.builtins.specs.Program.{answerIn}
 use Rattle.builtins.proofs.AgreeLanes.{agree1, agree2, agree3, agree-select}
-use Rattle.builtins.proofs.AgreeOthers.{agree-all, agree-any, agree-frexp, agree-pack, agree-halves, agree-fill, agree-unpack, agree-bitcast, agree-cross, agree-dot}
+use Rattle.builtins.proofs.AgreeOthers.{agree-all, agree-any, agree-frexp, agree-pack, agree-halves, agree-clamped, agree-unpack, agree-bitcast, agree-cross, agree-dot}
 
 no-matrix : (k : Kind) → isLanes k ≡ true → matrix k ≡ true → ⊥
 no-matrix Empty i m = false≢true m
@@ -38,7 +39,7 @@ no-matrix (One s) i m = false≢true m
 no-matrix (Vec n s) i m = false≢true m
 no-matrix (Mat c r w) i m = false≢true i
 
-module _ (ok : Bool) (n t : ℕ) (a b c : Value) (la : length (a .lanes) ≡ 16) (lb : length (b .lanes) ≡ 16) (lc : length (c .lanes) ≡ 16) (is : isLanes (a .kind) ≡ true) where
+module _ (R : Reading) (ok : Bool) (n t : ℕ) (a b c : Value) (la : length (a .lanes) ≡ 16) (lb : length (b .lanes) ≡ 16) (lc : length (c .lanes) ≡ 16) (is : isLanes (a .kind) ≡ true) where
   formed1 : (p : Taken) → judged (Unary p) n (kindAt t) a b c ≡ 0 → wellFormed a ≡ true
   formed1 p j = unary n (kindAt t) a b c p j .formed
 
@@ -49,7 +50,7 @@ module _ (ok : Bool) (n t : ℕ) (a b c : Value) (la : length (a .lanes) ≡ 16)
   unfolding judged
   unknown j = omega arith
 
-  pub agree : (which : Builtin) → judged (takes which) n (kindAt t) a b c ≡ 0 → answerIn (outcome which ok t (place (a .kind)) (cutOf a) b c) ≡ answerBy which (kindAt t) a b c
+  pub agree : (which : Builtin) → judged (takes which) n (kindAt t) a b c ≡ 0 → answerIn (outcome R which ok t (place (a .kind)) (cutOf a) b c) ≡ answerBy R which (kindAt t) a b c
   agree All j = agree-all ok a la is (formed1 Booleans j)
   agree Any j = agree-any ok a la is (formed1 Booleans j)
   agree Select j = agree-select ok la lb lc is (ternary n (kindAt t) a b c Anything Anything Booleans Selectable j)
@@ -73,14 +74,14 @@ module _ (ok : Bool) (n t : ℕ) (a b c : Value) (la : length (a .lanes) ≡ 16)
       let q = binary n (kindAt t) a b c Singles I32s SameShape j in
       agree2 ok a la is (q .first .formed) b lb (q .second .formed) (λ k. ldexpLane)
   agree Bitcast j = agree-bitcast ok a t la (cast n (kindAt t) a b c Numbers j)
-  agree Pack4x8snorm j = agree-pack ok a Four F32 8 (code8Of Of8.Snorm) la (unary n (kindAt t) a b c (Only (Vec Four F32)) j)
-  agree Pack4x8unorm j = agree-pack ok a Four F32 8 (code8Of Of8.Unorm) la (unary n (kindAt t) a b c (Only (Vec Four F32)) j)
-  agree Pack4xI8 j = agree-pack ok a Four I32 8 (code8Of Of8.Signed) la (unary n (kindAt t) a b c (Only (Vec Four I32)) j)
-  agree Pack4xI8Clamp j = agree-fill ok a
-  agree Pack4xU8 j = agree-pack ok a Four U32 8 (code8Of Of8.Unsigned) la (unary n (kindAt t) a b c (Only (Vec Four U32)) j)
-  agree Pack4xU8Clamp j = agree-pack ok a Four U32 8 (code8Of Of8.Unsigned) la (unary n (kindAt t) a b c (Only (Vec Four U32)) j)
-  agree Pack2x16snorm j = agree-pack ok a Two F32 16 (code16Of Of16.Snorm) la (unary n (kindAt t) a b c (Only (Vec Two F32)) j)
-  agree Pack2x16unorm j = agree-pack ok a Two F32 16 (code16Of Of16.Unorm) la (unary n (kindAt t) a b c (Only (Vec Two F32)) j)
+  agree Pack4x8snorm j = agree-pack ok a Four F32 8 (code8Of R Of8.Snorm) la (unary n (kindAt t) a b c (Only (Vec Four F32)) j)
+  agree Pack4x8unorm j = agree-pack ok a Four F32 8 (code8Of R Of8.Unorm) la (unary n (kindAt t) a b c (Only (Vec Four F32)) j)
+  agree Pack4xI8 j = agree-pack ok a Four I32 8 (code8Of R Of8.Signed) la (unary n (kindAt t) a b c (Only (Vec Four I32)) j)
+  agree Pack4xI8Clamp j = agree-clamped ok a R la (unary n (kindAt t) a b c (Only (Vec Four I32)) j)
+  agree Pack4xU8 j = agree-pack ok a Four U32 8 (code8Of R Of8.Unsigned) la (unary n (kindAt t) a b c (Only (Vec Four U32)) j)
+  agree Pack4xU8Clamp j = agree-pack ok a Four U32 8 (code8Of R Of8.ClampedUnsigned) la (unary n (kindAt t) a b c (Only (Vec Four U32)) j)
+  agree Pack2x16snorm j = agree-pack ok a Two F32 16 (code16Of R Of16.Snorm) la (unary n (kindAt t) a b c (Only (Vec Two F32)) j)
+  agree Pack2x16unorm j = agree-pack ok a Two F32 16 (code16Of R Of16.Unorm) la (unary n (kindAt t) a b c (Only (Vec Two F32)) j)
   agree Pack2x16float j = agree-halves ok a la (unary n (kindAt t) a b c (Only (Vec Two F32)) j)
   agree Unpack4x8snorm j = agree-unpack ok a 8 4 (lane8Of Of8.Snorm) (Vec Four F32) _ (formed1 (Only (One U32)) j) refl
   agree Unpack4x8unorm j = agree-unpack ok a 8 4 (lane8Of Of8.Unorm) (Vec Four F32) _ (formed1 (Only (One U32)) j) refl

@@ -8,10 +8,12 @@ use native.Mathlib.Omega.{arith}
 use lib.Dec.{eqb}
 use lib.ListN.{length, take, getD}
 use lib.Seq.{length-take-le}
+use Rattle.readings.specs.declared.Reading.{Reading}
+use Rattle.readings.specs.declared.Reading.the-variants as In
 use Rattle.values.specs.declared.Scalar.{Scalar}
 use Rattle.values.specs.declared.Scalar.the-variants.{Boolean, I32, U32, F32}
 use Rattle.values.specs.declared.Size.{Size}
-use Rattle.values.specs.declared.Size.the-variants.{Two, Three}
+use Rattle.values.specs.declared.Size.the-variants.{Two, Three, Four}
 use Rattle.values.specs.declared.Kind.{Kind}
 use Rattle.values.specs.declared.Kind.the-variants.{Empty, One, Vec, Mat}
 use Rattle.values.specs.declared.Value.{Value}
@@ -30,10 +32,12 @@ use Rattle.builtins.specs.Exponent.{fractionOf, exponentOf}
 use Rattle.builtins.specs.Bitcast.{bitcastOf}
 use Rattle.losses.specs.Losses.{largest, lossNumber, lossOf}
 use Rattle.half.specs.Convert.{halfOf}
-use Rattle.builtins.specs.Pack.{filled, word, packed, unpacked, lossIn}
+use Rattle.builtins.specs.Pack.{filled, word, packed, unpacked, packedClamped, lossIn}
 use Rattle.builtins.specs.Fold.{answered, answeredTwice, answeredLosing}
 use Rattle.moves.specs.Program.{recast}
-use Rattle.arms.specs.Program.{cutOf, isHalf, given, givenOne, givenTwo, givenWord, crossFour, fillFour}
+use Rattle.arms.specs.Program.{cutOf, isHalf, given, givenOne, givenTwo, givenWord, crossFour}
+use Rattle.packing.specs.Lanes.{clampedI8}
+use Rattle.packing.specs.Program.{fillFour, clampFour}
 use Rattle.builtins.specs.Program.{answerIn}
 use Rattle.builtins.proofs.Casting.{cast-value}
 use Rattle.builtins.proofs.Packed.{value-lanes, packs, codes, uncut}
@@ -68,8 +72,9 @@ module _ (ok : Bool) (a : Value) where
   unfolding filled
   fill-is = rw (byte (lane a 0), byte (lane a 1), byte (lane a 2), byte (lane a 3))
 
-  pub agree-fill : answerIn (givenOne ok 3 (fillFour (cutOf a))) ≡ answered (word (filled a))
-  agree-fill = by-scalar-type ok U32 _ ∙ ap (λ (x : ℕ). answered (word x)) fill-is
+  pub agree-clamped : (R : Reading) → length (a .lanes) ≡ 16 → Passed (Only (Vec Four I32)) a → answerIn (givenOne ok 3 (clampFour R (cutOf a))) ≡ answered (packedClamped R a)
+  agree-clamped In.Crate la p = by-scalar-type ok U32 _ ∙ ap (λ (x : ℕ). answered (word x)) fill-is
+  agree-clamped In.Text la p = agree-pack Four I32 8 clampedI8 la p
 
   -- ---- lanes of a word: f of each of its m parts of w bits
 

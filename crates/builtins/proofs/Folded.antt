@@ -7,6 +7,7 @@ use native.Mathlib.Omega.{arith}
 use borrow.Author.Tests.{ne-eqb, lt-ltb, le-ltb}
 use lib.Dec.{ltb, eqb}
 use lib.ListN.{length, length-append}
+use Rattle.readings.specs.declared.Reading.{Reading}
 use Rattle.values.specs.declared.Kind.{Kind}
 use Rattle.values.specs.declared.Value.{Value}
 use Rattle.values.specs.Value.{emptyValue}
@@ -19,33 +20,33 @@ use Rattle.calls.specs.Table.{takes}
 use Rattle.calls.specs.Refuse.{judged, refusalOf}
 use Rattle.calls.specs.Words.{callOf}
 use Rattle.builtins.specs.declared.Answer.{Answer}
-use Rattle.builtins.specs.Fold.{refused, answerBy, foldBy, foldOf}
+use Rattle.builtins.specs.Fold.{refused, answerBy, foldBy, foldIn}
 use Rattle.builtins.specs.Words.{answerOf, refusalIn, writtenIn}
 use Rattle.builtins.specs.Program.{Told}
 
 -- a call that its row lets pass is answered by its builtin
-pub folds : (which : Builtin) (n : ℕ) (k : Kind) (a b c : Value) → judged (takes which) n k a b c ≡ 0
-    → foldOf (record { builtin = which; count = n; target = k; a = a; b = b; c = c }) ≡ answerBy which k a b c
-unfolding foldOf
-folds which n k a b c e = ap (λ (m : ℕ). foldBy m (record { builtin = which; count = n; target = k; a = a; b = b; c = c })) e
+pub folds : (R : Reading) (which : Builtin) (n : ℕ) (k : Kind) (a b c : Value) → judged (takes which) n k a b c ≡ 0
+    → foldIn R (record { builtin = which; count = n; target = k; a = a; b = b; c = c }) ≡ answerBy R which k a b c
+unfolding foldIn
+folds R which n k a b c e = ap (λ (m : ℕ). foldBy R m (record { builtin = which; count = n; target = k; a = a; b = b; c = c })) e
 
 -- and one that is answered has passed
-pub unrefused : (c : Call) → foldOf c .refusal ≡ 0 → refusalOf c ≡ 0
-unfolding foldOf refused
-unrefused c = by (refusalOf c)
+pub unrefused : (R : Reading) (c : Call) → foldIn R c .refusal ≡ 0 → refusalOf c ≡ 0
+unfolding foldIn refused
+unrefused R c = by (refusalOf c)
   where
-    by : (m : ℕ) → foldBy m c .refusal ≡ 0 → m ≡ 0
+    by : (m : ℕ) → foldBy R m c .refusal ≡ 0 → m ≡ 0
     by zero r = refl
     by (suc m) r = r
 
-by-refusal : (m : ℕ) (c : Call) → (m ≡ 0 → ⊥) → foldBy m c .refusal ≡ m
+by-refusal : (R : Reading) (m : ℕ) (c : Call) → (m ≡ 0 → ⊥) → foldBy R m c .refusal ≡ m
 unfolding refused
-by-refusal zero c h = absurd (h refl)
-by-refusal (suc m) c h = refl
+by-refusal R zero c h = absurd (h refl)
+by-refusal R (suc m) c h = refl
 
-refuses : (c : Call) → (refusalOf c ≡ 0 → ⊥) → foldOf c .refusal ≡ refusalOf c
-unfolding foldOf
-refuses c h = by-refusal (refusalOf c) c h
+refuses : (R : Reading) (c : Call) → (refusalOf c ≡ 0 → ⊥) → foldIn R c .refusal ≡ refusalOf c
+unfolding foldIn
+refuses R c h = by-refusal R (refusalOf c) c h
 
 -- ---- what is told and written
 
@@ -75,18 +76,18 @@ module _ (a : Answer) (o : List ℕ) where
       told-written h l (rw none) e (e′ ∙ ap (λ (v : Value). put o′ 17 (wordsOf v)) (sym none)) (e″ ∙ ap (λ (n : ℕ). put o″ 34 (n ∷ [])) (sym nothing))
 
 -- of a call that is refused
-pub told-refused : (o : List ℕ) (w : List ℕ) → (refusalOf (callOf w) ≡ 0 → ⊥)
-    → (refusalOf (callOf w) ≡ refusalIn (length o) w) × (o ≡ put o 0 (writtenIn (length o) w))
+pub told-refused : (R : Reading) (o : List ℕ) (w : List ℕ) → (refusalOf (callOf w) ≡ 0 → ⊥)
+    → (refusalOf (callOf w) ≡ refusalIn R (length o) w) × (o ≡ put o 0 (writtenIn R (length o) w))
 unfolding refusalIn writtenIn
-told-refused o w h =
-    let e : foldOf (callOf w) .refusal ≡ refusalOf (callOf w) = refuses (callOf w) h in
+told-refused R o w h =
+    let e : foldIn R (callOf w) .refusal ≡ refusalOf (callOf w) = refuses R (callOf w) h in
     let n = ne-eqb (refusalOf (callOf w)) 0 h in
     (sym (rw (e, n)), sym (rw (e, n, n) (put-nil o 0)))
 
 -- of one that is answered, in memory o before and o′ after
-pub told-answer : (o : List ℕ) (w : List ℕ) {a : Answer} {r : ℕ} {o′ : List ℕ} → a ≡ foldOf (callOf w) → a .refusal ≡ 0 → Told a o r o′
-    → (r ≡ refusalIn (length o) w) × (o′ ≡ put o 0 (writtenIn (length o) w))
+pub told-answer : (R : Reading) (o : List ℕ) (w : List ℕ) {a : Answer} {r : ℕ} {o′ : List ℕ} → a ≡ foldIn R (callOf w) → a .refusal ≡ 0 → Told a o r o′
+    → (r ≡ refusalIn R (length o) w) × (o′ ≡ put o 0 (writtenIn R (length o) w))
 unfolding refusalIn writtenIn answerOf
-told-answer o w {a} e z t =
+told-answer R o w {a} e z t =
     let short = ltb (length o) 35 in
     (t .told ∙ sym (rw (← e, z)), t .memory ∙ sym (rw (← e, z) (ap (put o 0) (by-room short (wordsOf (a .first) ++ wordsOf (a .second) ++ a .loss ∷ [])))))

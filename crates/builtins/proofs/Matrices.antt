@@ -1,11 +1,12 @@
 -- A call of words that is not refused and whose first value is a matrix is of select or of transpose. Select then has a scalar condition, which chooses a whole value. Assumes nothing.
-use Prim.Native.Nat.{ℕ, _≤_, _<_}
+use Prim.Native.Nat.{ℕ, _≤_}
 use mathlib.Core.Bool.{Bool, true, false, cond, false≢true}
 use mathlib.Core.List.{List}
 use mathlib.Core.Logic.{⊎-elim}
 use mathlib.Core.Path.{_≡_, refl, ap, sym, _∙_}
 use lib.Dec.{lit<, eqb}
 use lib.ListN.{length, take, drop, getD}
+use Rattle.readings.specs.declared.Reading.{Reading}
 use Rattle.values.specs.declared.Scalar.the-variants.{Boolean}
 use Rattle.values.specs.declared.Kind.{Kind}
 use Rattle.values.specs.declared.Kind.the-variants.{Empty, One, Vec, Mat}
@@ -22,7 +23,7 @@ use Rattle.calls.specs.Program.{FirstMatrix, Passed3}
 use Rattle.calls.proofs.Matrices.{matrix-rows}
 use Rattle.calls.proofs.Passed.{ternary}
 use Rattle.builtins.specs.declared.Answer.{Answer}
-use Rattle.builtins.specs.Fold.{answered, foldOf}
+use Rattle.builtins.specs.Fold.{answered, foldIn}
 use Rattle.builtins.specs.Logical.{selectOf}
 use Rattle.moves.specs.Moves.{transposeOf}
 use Rattle.builtins.proofs.Called.{passed, folded}
@@ -53,7 +54,7 @@ answers-one : (v : Value) → length (v .lanes) ≡ 16 → OneValue (answered v)
 unfolding answered
 answers-one v l = record { refusal = refl; second = refl; sixteen = l; loss = refl }
 
-module _ (w : List ℕ) (p : ℕ) (f : FirstMatrix w p) (z : refusalOf (callOf w) ≡ 0) where
+module _ (R : Reading) (w : List ℕ) (p : ℕ) (f : FirstMatrix w p) (z : refusalOf (callOf w) ≡ 0) where
   -- ---- select
 
   module _ (e : getD w 0 0 ≡ 3) where
@@ -75,14 +76,14 @@ module _ (w : List ℕ) (p : ℕ) (f : FirstMatrix w p) (z : refusalOf (callOf w
     selected : cond (eqb (getD w 38 0) 0) (valueAt w 3) (valueAt w 20) ≡ selectOf (valueAt w 3) (valueAt w 20) (valueAt w 37)
     selected = rw (← lane-there w 37 third-there 0 (lit< tt)) (by-scalar selects scalar (lanes-16 w 3) (lanes-16 w 20))
 
-    pub selected-words : cond (eqb (getD w 38 0) 0) (take 17 (drop 3 w)) (take 17 (drop 20 w)) ≡ wordsOf (foldOf (callOf w) .first)
+    pub selected-words : cond (eqb (getD w 38 0) 0) (take 17 (drop 3 w)) (take 17 (drop 20 w)) ≡ wordsOf (foldIn R (callOf w) .first)
     unfolding answered
     selected-words =
         chosen (eqb (getD w 38 0) 0) _ _ (valueAt w 3) (valueAt w 20) (words-there w 3 (selects .first .formed)) (words-there w 20 (selects .second .formed))
-        ∙ ap wordsOf selected ∙ ap (λ (a : Answer). wordsOf (a .first)) (sym (folded w z Select is-select))
+        ∙ ap wordsOf selected ∙ ap (λ (a : Answer). wordsOf (a .first)) (sym (folded w z Select is-select R))
 
-    selected-one : OneValue (foldOf (callOf w))
-    selected-one = rw (folded w z Select is-select) (answers-one _ (ap (λ (v : Value). length (v .lanes)) (sym selected) ∙ chosen-16 (eqb (getD w 38 0) 0)))
+    selected-one : OneValue (foldIn R (callOf w))
+    selected-one = rw (folded w z Select is-select R) (answers-one _ (ap (λ (v : Value). length (v .lanes)) (sym selected) ∙ chosen-16 (eqb (getD w 38 0) 0)))
       where
         chosen-16 : (d : Bool) → length (cond d (valueAt w 3) (valueAt w 20) .lanes) ≡ 16
         chosen-16 true = lanes-16 w 3
@@ -95,17 +96,17 @@ module _ (w : List ℕ) (p : ℕ) (f : FirstMatrix w p) (z : refusalOf (callOf w
     unfolding builtinAt
     is-transpose = rw e
 
-    transposed-words : wordsOf (transposeOf (valueAt w 3)) ≡ wordsOf (foldOf (callOf w) .first)
+    transposed-words : wordsOf (transposeOf (valueAt w 3)) ≡ wordsOf (foldIn R (callOf w) .first)
     unfolding answered
-    transposed-words = ap (λ (a : Answer). wordsOf (a .first)) (sym (folded w z Transpose is-transpose))
+    transposed-words = ap (λ (a : Answer). wordsOf (a .first)) (sym (folded w z Transpose is-transpose R))
 
-    transposed-one : OneValue (foldOf (callOf w))
-    transposed-one = rw (folded w z Transpose is-transpose) (answers-one _ (turned-length (valueAt w 3) (first-matrix f)))
+    transposed-one : OneValue (foldIn R (callOf w))
+    transposed-one = rw (folded w z Transpose is-transpose R) (answers-one _ (turned-length (valueAt w 3) (first-matrix f)))
 
   -- ---- either
 
-  pub other-words : (getD w 0 0 ≡ 3 → ⊥) → wordsOf (transposeOf (valueAt w 3)) ≡ wordsOf (foldOf (callOf w) .first)
+  pub other-words : (getD w 0 0 ≡ 3 → ⊥) → wordsOf (transposeOf (valueAt w 3)) ≡ wordsOf (foldIn R (callOf w) .first)
   other-words n = ⊎-elim (λ e. absurd (n e)) transposed-words (matrix-rows w z (first-matrix f))
 
-  pub one-value : OneValue (foldOf (callOf w))
+  pub one-value : OneValue (foldIn R (callOf w))
   one-value = ⊎-elim selected-one transposed-one (matrix-rows w z (first-matrix f))

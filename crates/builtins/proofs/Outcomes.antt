@@ -6,6 +6,7 @@ use mathlib.Core.Path.{_≡_, refl}
 use native.Mathlib.Omega.{arith}
 use borrow.Author.Tests.{leb-true}
 use lib.Dec.{leb}
+use Rattle.readings.specs.declared.Reading.{Reading}
 use Rattle.values.specs.declared.Scalar.{Scalar}
 use Rattle.values.specs.declared.Scalar.the-variants.{Boolean, I32, U32, F32, F16}
 use Rattle.values.specs.declared.Kind.{Kind}
@@ -43,8 +44,8 @@ pub record Within (o : Outcome) : Type 0 where
 alone : {o : Outcome} → o .first ≤ 20 → o .second ≡ 0 → Within o
 alone h e = record { first = h; second = omega arith }
 
-module _ (ok : Bool) (t p : ℕ) (x : List ℕ) (b c : Value) where
-  pub passes-as : (which : Builtin) → outcome which ok t p x b c .passes ≡ ok
+module _ (R : Reading) (ok : Bool) (t p : ℕ) (x : List ℕ) (b c : Value) where
+  pub passes-as : (which : Builtin) → outcome R which ok t p x b c .passes ≡ ok
   passes-as All = refl
   passes-as Any = refl
   passes-as Select = refl
@@ -87,7 +88,7 @@ module _ (ok : Bool) (t p : ℕ) (x : List ℕ) (b c : Value) where
   passes-as Fract = refl
   passes-as Unknown = refl
 
-  pub within : (n : ℕ) (a : Value) → p ≤ 20 → (which : Builtin) → judged (takes which) n (kindAt t) a b c ≡ 0 → Within (outcome which ok t p x b c)
+  pub within : (n : ℕ) (a : Value) → p ≤ 20 → (which : Builtin) → judged (takes which) n (kindAt t) a b c ≡ 0 → Within (outcome R which ok t p x b c)
   within n a h All j = alone (omega arith) refl
   within n a h Any j = alone (omega arith) refl
   within n a h Select j = alone h refl

@@ -1,7 +1,8 @@
-// What a call gives: of a call of words, the words of its answer. What it means is in specs/: `foldOf` gives the answer of every call.
+// What a call gives: of a call of words, the words of its answer. What it means is in specs/: `foldIn` gives the answer of every call in each reading.
 mod matrix;
 
 use arms::Outcome;
+use readings::Reading;
 use values::Value;
 ghost use mathlib.Core.Path.{_≡_};
 ghost use mathlib.Core.List.{[], _∷_};
@@ -71,14 +72,14 @@ fn put_answer(out: &mut [u64], a: Outcome) -> u8
     0
 }
 
-// Folds a call of words into the words of its answer. Answers the refusal's number, 0 where there is none.
-pub fn fold(w: &[u64], out: &mut [u64]) -> u8
-    ensures { λ r. ⌜ (r ≡ refusalIn (length (now (out .entry))) (now (w .entry)))
-        × (now (out .exit) ≡ put (now (out .entry)) 0 (writtenIn (length (now (out .entry))) (now (w .entry)))) ⌝ }
+// Folds a call of words into the words of its answer, in the reading that the caller chooses. Answers the refusal's number, 0 where there is none.
+pub fn fold_in(reading: Reading, w: &[u64], out: &mut [u64]) -> u8
+    ensures { λ r. ⌜ (r ≡ refusalIn reading (length (now (out .entry))) (now (w .entry)))
+        × (now (out .exit) ≡ put (now (out .entry)) 0 (writtenIn reading (length (now (out .entry))) (now (w .entry)))) ⌝ }
 {
     let p = words::place_at(w, 3);
     if p > LAST_VECTOR {
-        return matrix::fold(w, p, out);
+        return matrix::fold(reading, w, p, out);
     }
     if p == 0 {
         return refusal(w);
@@ -87,9 +88,17 @@ pub fn fold(w: &[u64], out: &mut [u64]) -> u8
         return refusal(w);
     }
     let i = w[0];
-    let a = arms::arm(calls::builtin_at(i), w, p, words::cut_at(w, 3));
+    let a = arms::arm(reading, calls::builtin_at(i), w, p, words::cut_at(w, 3));
     if !a.passes {
         return refusal(w);
     }
     put_answer(out, a)
+}
+
+// In the crate's.
+pub fn fold(w: &[u64], out: &mut [u64]) -> u8
+    ensures { λ r. ⌜ (r ≡ refusalIn Reading.Crate (length (now (out .entry))) (now (w .entry)))
+        × (now (out .exit) ≡ put (now (out .entry)) 0 (writtenIn Reading.Crate (length (now (out .entry))) (now (w .entry)))) ⌝ }
+{
+    fold_in(Reading::Crate, w, out)
 }

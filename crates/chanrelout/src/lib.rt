@@ -1,7 +1,11 @@
 // What a C or Rust program links: `rt staticlib chanrelout` writes target/staticlib/libchanrelout.a. Numbers pass as themselves, a slice as a
 // pointer and a length. bindings/ has the C header and the Rust crate.
+use readings::Reading;
 ghost use mathlib.Core.Path.{_≡_};
+ghost use mathlib.Core.Bool.{cond};
+ghost use mathlib.Core.List.{[]};
 ghost use lib.ListN.{length};
+ghost use Rattle.readings.specs.Readings.{isReading, readingAt};
 ghost use Rattle.half.specs.Convert.{halfOf, singleOf};
 ghost use Rattle.losses.specs.Losses.{toldOf};
 ghost use Rattle.buffers.specs.Memory.{put};
@@ -14,13 +18,13 @@ ghost use Rattle.order.specs.Order as order;
 ghost use Rattle.sorting.specs.Sorting.{sortedOf, indexIn};
 ghost use Rattle.diffs.specs.Diffs.{comparedIn, kindsIn};
 ghost use Rattle.diffs.specs.Places.{firstPlace};
-ghost use Rattle.numbers.specs.Number.{toldNumber, lineNumber, readNumber, writtenNumber, sortNumber, diffNumber, placeNumber};
+ghost use Rattle.numbers.specs.Number.{toldNumber, refusalOrCount, lineNumber, readNumber, writtenNumber, sortNumber, diffNumber, placeNumber};
 
 // Folds a line of 01 into its answer, without newlines. Answers the refusal's number times 2^32, or the length of what was written.
 #[no_mangle]
 pub extern "C" fn chanrelout_line(line: &[u8], out: &mut [u8]) -> u64
-    ensures { λ r. ⌜ (r ≡ lineNumber (text.lineAnswer (length (now (out .entry))) (now (line .entry))))
-        × (now (out .exit) ≡ put (now (out .entry)) 0 (text.writtenIn (length (now (out .entry))) (now (line .entry)))) ⌝ }
+    ensures { λ r. ⌜ (r ≡ lineNumber (text.lineAnswer Reading.Crate (length (now (out .entry))) (now (line .entry))))
+        × (now (out .exit) ≡ put (now (out .entry)) 0 (text.writtenIn Reading.Crate (length (now (out .entry))) (now (line .entry)))) ⌝ }
 {
     let a = lines::fold_line(line, out);
     numbers::line_number(a)
@@ -29,10 +33,37 @@ pub extern "C" fn chanrelout_line(line: &[u8], out: &mut [u8]) -> u64
 // Folds a call of words into the words of its answer. Answers the refusal's number, 0 where there is none.
 #[no_mangle]
 pub extern "C" fn chanrelout_call(call: &[u64], out: &mut [u64]) -> u8
-    ensures { λ r. ⌜ (r ≡ refusalIn (length (now (out .entry))) (now (call .entry)))
-        × (now (out .exit) ≡ put (now (out .entry)) 0 (writtenIn (length (now (out .entry))) (now (call .entry)))) ⌝ }
+    ensures { λ r. ⌜ (r ≡ refusalIn Reading.Crate (length (now (out .entry))) (now (call .entry)))
+        × (now (out .exit) ≡ put (now (out .entry)) 0 (writtenIn Reading.Crate (length (now (out .entry))) (now (call .entry)))) ⌝ }
 {
     builtins::fold(call, out)
+}
+
+// What a number gives that is no reading: a refusal by 1, as of a name that is not in the table, before anything is looked at.
+const NO_SUCH_READING: u8 = 1;
+
+// The same two in a reading, 0 the crate's and 1 the text's.
+#[no_mangle]
+pub extern "C" fn chanrelout_line_in(reading: u64, line: &[u8], out: &mut [u8]) -> u64
+    ensures { λ r. ⌜ (r ≡ cond (isReading reading) (lineNumber (text.lineAnswer (readingAt reading) (length (now (out .entry))) (now (line .entry)))) (refusalOrCount 1 0))
+        × (now (out .exit) ≡ put (now (out .entry)) 0 (cond (isReading reading) (text.writtenIn (readingAt reading) (length (now (out .entry))) (now (line .entry))) [])) ⌝ }
+{
+    if reading > 1 {
+        return NO_SUCH_READING as u64 * 0x1_0000_0000;
+    }
+    let a = lines::fold_line_in(readings::reading_at(reading), line, out);
+    numbers::line_number(a)
+}
+
+#[no_mangle]
+pub extern "C" fn chanrelout_call_in(reading: u64, call: &[u64], out: &mut [u64]) -> u8
+    ensures { λ r. ⌜ (r ≡ cond (isReading reading) (refusalIn (readingAt reading) (length (now (out .entry))) (now (call .entry))) 1)
+        × (now (out .exit) ≡ put (now (out .entry)) 0 (cond (isReading reading) (writtenIn (readingAt reading) (length (now (out .entry))) (now (call .entry))) [])) ⌝ }
+{
+    if reading > 1 {
+        return NO_SUCH_READING;
+    }
+    builtins::fold_in(readings::reading_at(reading), call, out)
 }
 
 // Reads a value's text into its 17 words. Answers the refusal's number times 2^32, and the place of a fault, counted from 1.

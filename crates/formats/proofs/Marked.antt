@@ -1,10 +1,11 @@
--- The marked numbers of 01, "Numbers at the edges": one list of calls and answers, and one proof, by computation, that `foldOf` gives each. Assumes nothing.
+-- The marked numbers of 01, "Numbers at the edges": one list of calls and answers, and one proof, by computation, that `foldOf` gives each; and 02's number of the text's reading. Assumes nothing.
 use mathlib.Core.Path.{_≡_, refl}
 use Prim.Native.Nat.{ℕ, _^_, _-_}
 use mathlib.Core.List.{List, [], _∷_, map}
 use lib.Ieee as Ieee
 use Rattle.half.specs.Format as F
 use Rattle.half.specs.Convert as C
+use Rattle.readings.specs.declared.Reading.the-variants as In
 use Rattle.values.specs.declared.Scalar.{Scalar}
 use Rattle.values.specs.declared.Scalar.the-variants.{I32, U32, F32}
 use Rattle.values.specs.declared.Size.the-variants.{Two, Four}
@@ -19,10 +20,11 @@ use Rattle.values.specs.Value.{value, emptyValue, wellFormed, lanewise, lanewis
 use Rattle.builtins.specs.Numeric.{dotOf}
 use Rattle.exponent.specs.Exponent.{fraction, exponent, ldexp}
 use Rattle.norm.specs.Norm.{stepped, floorCode, packedNorm, unpackedNorm}
+use Rattle.exact.specs.Exact.{clampedSize, floorHalf, exactCode}
 use Rattle.builtins.specs.Exponent.{fractionOf, exponentOf}
 use Rattle.losses.specs.Losses.{lossBetween}
 use Rattle.builtins.specs.Pack.{filled, packed, unpacked, lossIn}
-use Rattle.builtins.specs.Fold.{refused, answered, answeredTwice, answeredLosing, foldOf}
+use Rattle.builtins.specs.Fold.{refused, answered, answeredTwice, answeredLosing, foldIn, foldOf}
 
 abbrev call : Builtin → ℕ → Value → Value → Value → Call
 call f n x y z = record { builtin = f; count = n; target = Empty; a = x; b = y; c = z }
@@ -75,5 +77,10 @@ marked =
     ∷ []
 
 pub holds : map (λ (p : Call × Answer). foldOf (p .0)) marked ≡ map (λ (p : Call × Answer). p .1) marked
-unfolding foldOf judged refused answered answeredTwice answeredLosing lossIn lossBetween value emptyValue wellFormed lanewise lanewise2 lanewise3 dotOf fraction exponent fractionOf exponentOf stepped floorCode packedNorm unpackedNorm filled packed unpacked ldexp F.fields F.pattern F.rounded F.magnitudeOf C.convertedMagnitude C.converted Ieee.size Ieee.ofBits Ieee.toBits Ieee.add Ieee.mul Ieee.div Ieee.lt Ieee.isNan Ieee.ofInt
+unfolding foldIn judged refused answered answeredTwice answeredLosing lossIn lossBetween value emptyValue wellFormed lanewise lanewise2 lanewise3 dotOf fraction exponent fractionOf exponentOf stepped floorCode packedNorm unpackedNorm filled packed unpacked ldexp F.fields F.pattern F.rounded F.magnitudeOf C.convertedMagnitude C.converted Ieee.size Ieee.ofBits Ieee.toBits Ieee.add Ieee.mul Ieee.div Ieee.lt Ieee.isNan Ieee.ofInt
 holds = refl
+
+-- 02, Q-1: "3B008080 then gives 0"
+pub text-holds : foldIn In.Text (call1 Pack4x8unorm (four F32 0x3b00_8080 0 0 0)) ≡ answered (scalar U32 0)
+unfolding foldIn judged answered value emptyValue wellFormed packed exactCode clampedSize floorHalf F.fields
+text-holds = refl

@@ -1,1 +1,1 @@
-// The seven packed formats: statements over `foldOf`, with the marked numbers of 01, and their proofs; no code.
+// The packed formats: statements over `foldIn`, with the marked numbers of 01, and their proofs; no code.

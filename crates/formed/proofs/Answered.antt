@@ -9,6 +9,8 @@ use native.Mathlib.Omega.{arith}
 use borrow.Author.Tests.{lt-ltb}
 use lib.Dec.{lit<, ltb, eqb}
 use lib.ListN.{length}
+use Rattle.readings.specs.declared.Reading.{Reading}
+use Rattle.readings.specs.declared.Reading.the-variants as In
 use Rattle.values.specs.declared.Scalar.the-variants.{Boolean, I32, U32, F32}
 use Rattle.values.specs.declared.Size.the-variants.{Two, Three, Four}
 use Rattle.values.specs.declared.Kind.{Kind}
@@ -34,11 +36,11 @@ use Rattle.exponent.specs.Exponent.{fractionLane, exponentLane, ldexpLane}
 use Rattle.exponent.proofs.Bounds.{fraction-lane-below, exponent-lane-below, ldexp-lane-below}
 use Rattle.rounding.proofs.Laws.{whole-lane-fits, fract-lane-fits}
 use Rattle.builtins.specs.Exponent.{fractionOf, exponentOf}
-use Rattle.formats.specs.Formats.{x8snorm, x8unorm, xI8, xU8, x16snorm, x16unorm, x16float}
+use Rattle.formats.specs.Formats.{x8snorm, x8unorm, xI8, xU8, xI8Clamp, xU8Clamp, x16snorm, x16unorm, x16float}
 use Rattle.moves.specs.Moves.{selectLane, transposeOf}
 use Rattle.builtins.specs.Logical.{allOf, anyOf, selectOf}
 use Rattle.builtins.specs.Numeric.{crossOf, dotOf}
-use Rattle.builtins.specs.Pack.{packed, lossIn}
+use Rattle.builtins.specs.Pack.{packed, packedClamped, lossIn}
 use Rattle.builtins.specs.Fold.{answered, answeredTwice, answeredLosing, answerBy}
 use Rattle.builtins.proofs.Folded.{folds, unrefused}
 use Rattle.builtins.proofs.Chosen.{by-scalar, by-vector, lanes-to-choose}
@@ -65,7 +67,7 @@ any-formed : (v : Value) → AnswerFormed (answered (anyOf v))
 unfolding anyOf
 any-formed v = one (truth (not (every (λ x. eqb x 0) (lanesOf v))))
 
-module _ (n : ℕ) (t : Kind) (a b c : Value) (la : length (a .lanes) ≡ 16) (lb : length (b .lanes) ≡ 16) (lc : length (c .lanes) ≡ 16) where
+module _ (R : Reading) (n : ℕ) (t : Kind) (a b c : Value) (la : length (a .lanes) ≡ 16) (lb : length (b .lanes) ≡ 16) (lc : length (c .lanes) ≡ 16) where
   abbrev most : ℕ
   most = bound (scalarOf (a .kind))
 
@@ -135,10 +137,14 @@ module _ (n : ℕ) (t : Kind) (a b c : Value) (la : length (a .lanes) ≡ 16) (l
   unfolding answeredLosing lossIn
   halves-formed e =
       record {
-        first = packed-formed (laws x16float) Two F32 a refl (unary n t a b c _ e);
+        first = packed-formed (laws R x16float) Two F32 a refl (unary n t a b c _ e);
         second = inl refl;
         loss = largest-most 2 _ (λ x. number-most (lossOf x)) (lanesOf a);
       }
+
+  clamped-formed : (r : Reading) → judged (takes Pack4xI8Clamp) n t a b c ≡ 0 → Formed (packedClamped r a)
+  clamped-formed In.Crate e = filled-formed a
+  clamped-formed In.Text e = packed-formed (laws In.Text xI8Clamp) Four I32 a refl (unary n t a b c _ e)
 
   cross-formed : judged (takes Cross) n t a b c ≡ 0 → AnswerFormed (answered (crossOf a b))
   unfolding crossOf
@@ -161,7 +167,7 @@ module _ (n : ℕ) (t : Kind) (a b c : Value) (la : length (a .lanes) ≡ 16) (l
 
   -- ---- by builtin
 
-  good : (which : Builtin) → judged (takes which) n t a b c ≡ 0 → AnswerFormed (answerBy which t a b c)
+  good : (which : Builtin) → judged (takes which) n t a b c ≡ 0 → AnswerFormed (answerBy R which t a b c)
   good All e = all-formed a
   good Any e = any-formed a
   good Select e = select-formed e
@@ -181,22 +187,22 @@ module _ (n : ℕ) (t : Kind) (a b c : Value) (la : length (a .lanes) ≡ 16) (l
   good Frexp e = frexp-formed e
   good Ldexp e = ldexp-formed e
   good Bitcast e = let q = cast n t a b c Numbers e in one (bitcast-formed t a (q .type) (q .target))
-  good Pack4x8snorm e = one (packed-formed (laws x8snorm) Four F32 a refl (unary n t a b c _ e))
-  good Pack4x8unorm e = one (packed-formed (laws x8unorm) Four F32 a refl (unary n t a b c _ e))
-  good Pack4xI8 e = one (packed-formed (laws xI8) Four I32 a refl (unary n t a b c _ e))
-  good Pack4xI8Clamp e = one (filled-formed a)
-  good Pack4xU8 e = one (packed-formed (laws xU8) Four U32 a refl (unary n t a b c _ e))
-  good Pack4xU8Clamp e = one (packed-formed (laws xU8) Four U32 a refl (unary n t a b c _ e))
-  good Pack2x16snorm e = one (packed-formed (laws x16snorm) Two F32 a refl (unary n t a b c _ e))
-  good Pack2x16unorm e = one (packed-formed (laws x16unorm) Two F32 a refl (unary n t a b c _ e))
+  good Pack4x8snorm e = one (packed-formed (laws R x8snorm) Four F32 a refl (unary n t a b c _ e))
+  good Pack4x8unorm e = one (packed-formed (laws R x8unorm) Four F32 a refl (unary n t a b c _ e))
+  good Pack4xI8 e = one (packed-formed (laws R xI8) Four I32 a refl (unary n t a b c _ e))
+  good Pack4xI8Clamp e = one (clamped-formed R e)
+  good Pack4xU8 e = one (packed-formed (laws R xU8) Four U32 a refl (unary n t a b c _ e))
+  good Pack4xU8Clamp e = one (packed-formed (laws R xU8Clamp) Four U32 a refl (unary n t a b c _ e))
+  good Pack2x16snorm e = one (packed-formed (laws R x16snorm) Two F32 a refl (unary n t a b c _ e))
+  good Pack2x16unorm e = one (packed-formed (laws R x16unorm) Two F32 a refl (unary n t a b c _ e))
   good Pack2x16float e = halves-formed e
-  good Unpack4x8snorm e = one (unpacked-formed (laws x8snorm) Four F32 a refl refl)
-  good Unpack4x8unorm e = one (unpacked-formed (laws x8unorm) Four F32 a refl refl)
-  good Unpack4xI8 e = one (unpacked-formed (laws xI8) Four I32 a refl refl)
-  good Unpack4xU8 e = one (unpacked-formed (laws xU8) Four U32 a refl refl)
-  good Unpack2x16snorm e = one (unpacked-formed (laws x16snorm) Two F32 a refl refl)
-  good Unpack2x16unorm e = one (unpacked-formed (laws x16unorm) Two F32 a refl refl)
-  good Unpack2x16float e = one (unpacked-formed (laws x16float) Two F32 a refl refl)
+  good Unpack4x8snorm e = one (unpacked-formed (laws R x8snorm) Four F32 a refl refl)
+  good Unpack4x8unorm e = one (unpacked-formed (laws R x8unorm) Four F32 a refl refl)
+  good Unpack4xI8 e = one (unpacked-formed (laws R xI8) Four I32 a refl refl)
+  good Unpack4xU8 e = one (unpacked-formed (laws R xU8) Four U32 a refl refl)
+  good Unpack2x16snorm e = one (unpacked-formed (laws R x16snorm) Two F32 a refl refl)
+  good Unpack2x16unorm e = one (unpacked-formed (laws R x16unorm) Two F32 a refl refl)
+  good Unpack2x16float e = one (unpacked-formed (laws R x16float) Two F32 a refl refl)
   good Floor e = lanes1 Floats refl e _ (whole-lane-fits _ (scalarOf (a .kind)))
   good Ceil e = lanes1 Floats refl e _ (whole-lane-fits _ (scalarOf (a .kind)))
   good Trunc e = lanes1 Floats refl e _ (whole-lane-fits _ (scalarOf (a .kind)))
@@ -205,6 +211,6 @@ module _ (n : ℕ) (t : Kind) (a b c : Value) (la : length (a .lanes) ≡ 16) (l
   good Unknown e = absurd (unknown e)
 
 pub answers-formed : AnswersFormed
-answers-formed c h r =
-    let e = unrefused c r in
-    subst AnswerFormed (sym (folds (c .builtin) (c .count) (c .target) (c .a) (c .b) (c .c) e)) (good (c .count) (c .target) (c .a) (c .b) (c .c) (h .a) (h .b) (h .c) (c .builtin) e)
+answers-formed R c h r =
+    let e = unrefused R c r in
+    subst AnswerFormed (sym (folds R (c .builtin) (c .count) (c .target) (c .a) (c .b) (c .c) e)) (good R (c .count) (c .target) (c .a) (c .b) (c .c) (h .a) (h .b) (h .c) (c .builtin) e)

@@ -8,6 +8,7 @@ use native.Mathlib.Omega.{arith}
 use borrow.Author.Tests.{eq-eqb}
 use lib.ListN.{length}
 use lib.Seq.{length-take-le}
+use Rattle.readings.specs.declared.Reading.{Reading}
 use Rattle.values.specs.declared.Kind.{Kind}
 use Rattle.values.specs.declared.Value.{Value}
 use Rattle.values.specs.Value.{laneCount, lanesOf, value, emptyValue}
@@ -48,16 +49,16 @@ module _ (t : Kind) (v : Value) (l : length (v .lanes) ≡ 16) (p : PassedCast N
 
 -- ---- the calls
 
-passed : (t : Kind) (v : Value) → casting t v .refusal ≡ 0 → PassedCast Numbers t v
-passed t v r = cast 2 t v emptyValue emptyValue Numbers (unrefused (callCast t v) r)
+passed : (R : Reading) (t : Kind) (v : Value) → casting R t v .refusal ≡ 0 → PassedCast Numbers t v
+passed R t v r = cast 2 t v emptyValue emptyValue Numbers (unrefused R (callCast t v) r)
 
-module _ (t : Kind) (v : Value) (p : PassedCast Numbers t v) where
+module _ (R : Reading) (t : Kind) (v : Value) (p : PassedCast Numbers t v) where
   passes : judged (Cast Numbers) 2 t v emptyValue emptyValue ≡ 0
   unfolding judged
   passes = rw (p .type, p .value .formed, p .target, p .value .alone, eq-eqb (byteSize t) (byteSize (v .kind)) (p .size))
 
-  casts : casting t v ≡ answered (bitcastOf t v)
-  casts = folds Bitcast 2 t v emptyValue emptyValue passes
+  casts : casting R t v ≡ answered (bitcastOf t v)
+  casts = folds R Bitcast 2 t v emptyValue emptyValue passes
 
   back : PassedCast Numbers (v .kind) (bitcastOf t v)
   unfolding bitcastOf value
@@ -70,8 +71,8 @@ module _ (t : Kind) (v : Value) (p : PassedCast Numbers t v) where
 
 pub cast-back : ThereAndBack
 unfolding answered
-cast-back t v l r =
-    let p = passed t v r in
-    ap (λ (a : Answer). casting (v .kind) (a .first)) (casts t v p)
-    ∙ casts (v .kind) (bitcastOf t v) (back t v p)
+cast-back R t v l r =
+    let p = passed R t v r in
+    ap (λ (a : Answer). casting R (v .kind) (a .first)) (casts R t v p)
+    ∙ casts R (v .kind) (bitcastOf t v) (back R t v p)
     ∙ ap answered (there-and-back t v l p)

@@ -1,16 +1,17 @@
--- What an answered call gives is well formed, as a statement over `foldOf`. Definitions only.
+-- What an answered call gives is well formed, as a statement over `foldIn`. Definitions only.
 use Prim.Native.Nat.{_≤_}
 use mathlib.Core.Path.{_≡_}
 use mathlib.Core.Logic.{_⊎_}
 use mathlib.Core.Bool.{true}
 use lib.ListN.{length}
+use Rattle.readings.specs.declared.Reading.{Reading}
 use Rattle.values.specs.Value.{shaped, emptyValue, Formed}
 use Rattle.values.specs.declared.Scalar.the-variants.{I32}
 use Rattle.values.specs.declared.Value.{Value}
 use Rattle.calls.specs.Table.{Floats, taken}
 use Rattle.calls.specs.declared.Call.{Call}
 use Rattle.builtins.specs.declared.Answer.{Answer}
-use Rattle.builtins.specs.Fold.{foldOf}
+use Rattle.builtins.specs.Fold.{foldIn}
 
 -- "a frexp pair (a float value and i32s in its shape)"
 pub record Pair (v w : Value) : Type 0 where
@@ -31,4 +32,4 @@ pub record Held (call : Call) : Type 0 where
   pub c : length (call .c .lanes) ≡ 16
 
 abbrev pub AnswersFormed : Type 0
-AnswersFormed = (c : Call) → Held c → foldOf c .refusal ≡ 0 → AnswerFormed (foldOf c)
+AnswersFormed = (r : Reading) (c : Call) → Held c → foldIn r c .refusal ≡ 0 → AnswerFormed (foldIn r c)

@@ -8,6 +8,7 @@ use native.Mathlib.Omega.{arith}
 use lib.Dec.{eqb}
 use lib.ListN.{length, length-append}
 use borrow.Author.Tests.{eqb-true, eqb-false}
+use Rattle.readings.specs.declared.Reading.{Reading}
 use Rattle.buffers.specs.Memory.{put}
 use Rattle.buffers.proofs.Puts.{put-length}
 use Rattle.cutting.specs.Cutting.{mostBytes, heldOf}
@@ -21,11 +22,11 @@ use Rattle.inputs.proofs.Steps.{not-both, step-last, buffer-length, hel
 use Rattle.inputs.proofs.Turned.{all-loop, turns-print}
 
 -- turns that read all of an input and are done
-pub record ReadAll (n : ℕ) (b input : List ℕ) : Type 0 where
+pub record ReadAll (R : Reading) (n : ℕ) (b input : List ℕ) : Type 0 where
   pub count : ℕ
   pub next : List ℕ
   pub held : Held
-  pub turns : Turns n b startOf count next held
+  pub turns : Turns R n b startOf count next held
   pub read : allRead turns ≡ input
   pub done : held .done ≡ true
 
@@ -35,56 +36,56 @@ abbrev left : List ℕ → Held → List ℕ → ℕ
 left b h rest = 2 * length rest + (length (heldOf b (h .at) (h .have)) + cond (h .last) 0 1)
 
 -- whatever turns there were, where less than k is left there are turns that read the rest
-abbrev Below : ℕ → List ℕ → ℕ → Type 0
-Below n from k =
-    (j : ℕ) (b : List ℕ) (h : Held) (t : Turns n from startOf j b h) (rest : List ℕ) → mostBytes < length b → (h .last ≡ true → rest ≡ [])
-    → left b h rest < k → ReadAll n from (allRead t ++ rest)
+abbrev Below : Reading → ℕ → List ℕ → ℕ → Type 0
+Below R n from k =
+    (j : ℕ) (b : List ℕ) (h : Held) (t : Turns R n from startOf j b h) (rest : List ℕ) → mostBytes < length b → (h .last ≡ true → rest ≡ [])
+    → left b h rest < k → ReadAll R n from (allRead t ++ rest)
 
-module _ {n : ℕ} (pos : 0 < n) {from : List ℕ} {k : ℕ} (below : Below n from k) {j : ℕ} {b : List ℕ} {h : Held} (t : Turns n from startOf j b h) (room : mostBytes < length b) where
+module _ {R : Reading} {n : ℕ} (pos : 0 < n) {from : List ℕ} {k : ℕ} (below : Below R n from k) {j : ℕ} {b : List ℕ} {h : Held} (t : Turns R n from startOf j b h) (room : mostBytes < length b) where
   -- a read of bytes that fit
-  reading : (more rest : List ℕ) → stepOf n b h .reads ≡ true → length more ≤ 1 → (length more ≡ 0 → rest ≡ [])
-      → 2 * length rest + (length (heldOf b (h .at) (h .have)) + (length more + cond (eqb (length more) 0) 0 1)) < k → ReadAll n from (allRead t ++ (more ++ rest))
+  reading : (more rest : List ℕ) → stepOf R n b h .reads ≡ true → length more ≤ 1 → (length more ≡ 0 → rest ≡ [])
+      → 2 * length rest + (length (heldOf b (h .at) (h .have)) + (length more + cond (eqb (length more) 0) 0 1)) < k → ReadAll R n from (allRead t ++ (more ++ rest))
   unfolding allRead turnRead
   reading more rest f few end m =
-      let s = stepOf n b h in
-      let l = buffer-length n b h in
-      let short = reads-short n b h pos f in
-      let fits : s .have + length more ≤ length (bufferOf n b h) = omega arith in
-      let start : s .at ≤ s .have = omega (arith, reads-open n b h f .1) in
-      let next = put (bufferOf n b h) (s .have) more in
-      let same = put-length (bufferOf n b h) (s .have) more fits in
-      let e = held-put (bufferOf n b h) start more fits in
-      let u : Turn n b h next (readOf s (length more)) = gets {next = next} f (record { more = more; room = omega arith; fits = omega arith; held = e; state = refl }) in
-      rw append-assoc at (below (suc j) next (readOf s (length more)) (follows t u) rest (omega arith) (λ g. end (eqb-true (length more) 0 g)) (omega (arith, simp length-append at (ap length e), held-length n b h)))
+      let s = stepOf R n b h in
+      let l = buffer-length R n b h in
+      let short = reads-short R n b h pos f in
+      let fits : s .have + length more ≤ length (bufferOf R n b h) = omega arith in
+      let start : s .at ≤ s .have = omega (arith, reads-open R n b h f .1) in
+      let next = put (bufferOf R n b h) (s .have) more in
+      let same = put-length (bufferOf R n b h) (s .have) more fits in
+      let e = held-put (bufferOf R n b h) start more fits in
+      let u : Turn R n b h next (readOf s (length more)) = gets {next = next} f (record { more = more; room = omega arith; fits = omega arith; held = e; state = refl }) in
+      rw append-assoc at (below (suc j) next (readOf s (length more)) (follows t u) rest (omega arith) (λ g. end (eqb-true (length more) 0 g)) (omega (arith, simp length-append at (ap length e), held-length R n b h)))
 
   -- the next byte, or the end of the input
-  next-byte : (rest : List ℕ) → stepOf n b h .reads ≡ true → left b h rest < suc k → h .last ≡ false → ReadAll n from (allRead t ++ rest)
+  next-byte : (rest : List ℕ) → stepOf R n b h .reads ≡ true → left b h rest < suc k → h .last ≡ false → ReadAll R n from (allRead t ++ rest)
   next-byte [] f m g = reading [] [] f (omega arith) (λ z. refl) (omega (arith, rw g at m))
   next-byte (x ∷ rest) f m g = reading (x ∷ []) rest f (omega arith) (λ z. absurd (omega (arith, z))) (omega (arith, rw g at m))
 
-  one-more : (rest : List ℕ) → (h .last ≡ true → rest ≡ []) → left b h rest < suc k → ReadAll n from (allRead t ++ rest)
+  one-more : (rest : List ℕ) → (h .last ≡ true → rest ≡ []) → left b h rest < suc k → ReadAll R n from (allRead t ++ rest)
   unfolding allRead turnRead
-  one-more rest end m = by (eqb (stepPart n b h .size) 0) refl (h .last) refl
+  one-more rest end m = by (eqb (stepPart R n b h .size) 0) refl (h .last) refl
     where
-      by : (d : Bool) → eqb (stepPart n b h .size) 0 ≡ d → (l : Bool) → h .last ≡ l → ReadAll n from (allRead t ++ rest)
+      by : (d : Bool) → eqb (stepPart R n b h .size) 0 ≡ d → (l : Bool) → h .last ≡ l → ReadAll R n from (allRead t ++ rest)
       by true e true f =
-          let q = idle-last n b h e f in
-          record { count = suc j; next = bufferOf n b h; held = stepOf n b h; turns = follows t (goes (q .0)); read = rw (end f); done = q .1 }
-      by true e false f = next-byte rest (idle-open n b h e f) m f
+          let q = idle-last R n b h e f in
+          record { count = suc j; next = bufferOf R n b h; held = stepOf R n b h; turns = follows t (goes (q .0)); read = rw (end f); done = q .1 }
+      by true e false f = next-byte rest (idle-open R n b h e f) m f
       by false e l f =
-          let z = eqb-false (stepPart n b h .size) 0 e in
-          rw append-nil at (below (suc j) (bufferOf n b h) (stepOf n b h) (follows t (goes (busy-quiet n b h e))) rest (omega (arith, buffer-length n b h)) (λ g. end (sym (step-last n b h) ∙ g)) (rw (step-last n b h) (omega (arith, held-length n b h, z))))
+          let z = eqb-false (stepPart R n b h .size) 0 e in
+          rw append-nil at (below (suc j) (bufferOf R n b h) (stepOf R n b h) (follows t (goes (busy-quiet R n b h e))) rest (omega (arith, buffer-length R n b h)) (λ g. end (sym (step-last R n b h) ∙ g)) (rw (step-last R n b h) (omega (arith, held-length R n b h, z))))
 
-reads-below : {n : ℕ} → 0 < n → (from : List ℕ) (k : ℕ) → Below n from k
+reads-below : {R : Reading} {n : ℕ} → 0 < n → (from : List ℕ) (k : ℕ) → Below R n from k
 reads-below pos from zero j b h t rest room end m = absurd (omega arith)
 reads-below pos from (suc k) j b h t rest room end m = one-more pos (reads-below pos from k) t room rest end m
 
-pub reads-all : {n : ℕ} → 0 < n → (b input : List ℕ) → mostBytes < length b → ReadAll n b input
+pub reads-all : {R : Reading} {n : ℕ} → 0 < n → (b input : List ℕ) → mostBytes < length b → ReadAll R n b input
 unfolding heldOf allRead
 reads-all pos b input room = reads-below pos b (2 * length input + 2) 0 b startOf begins input room (λ e. absurd (not-both e)) (omega arith)
 
 -- so every input has a loop, which prints what is stated for it
-pub some-loop : {n : ℕ} → 0 < n → (b input : List ℕ) → mostBytes < length b → Loop n b startOf input (printed input)
-some-loop pos b input room =
-    let r = reads-all pos b input room in
+pub some-loop : {R : Reading} {n : ℕ} → 0 < n → (b input : List ℕ) → mostBytes < length b → Loop R n b startOf input (printed R input)
+some-loop {R} pos b input room =
+    let r = reads-all {R = R} pos b input room in
     rw (turns-print pos (r .turns) (r .done), r .read) at (all-loop (r .turns) refl (r .done))

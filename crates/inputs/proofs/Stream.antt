@@ -8,6 +8,7 @@ use lib.ListN.{length, take, drop, length-append, length-drop}
 use lib.Seq.{drop-length, drop-drop, take-all}
 use lib.Dec.{ltb, eqb}
 use borrow.Author.Tests.{lt-ltb, ltb-true, ltb-false, eqb-true, eqb-false}
+use Rattle.readings.specs.declared.Reading.{Reading}
 use Rattle.buffers.specs.Text.{placeOf}
 use Rattle.buffers.proofs.FirstPlace.{place-le}
 use Rattle.cutting.specs.Lines.{newlineAt, lines, afterNewline}
@@ -21,53 +22,53 @@ use Rattle.cutting.proofs.Sizes.{size-le}
 use Rattle.cutting.proofs.Cut.{lines-ended, lines-open, after-ended, after-open}
 
 -- all lines that are too long have one answer
-long-line : (l : List ℕ) → mostBytes < length l → lineOf l ≡ refused 7
+long-line : (R : Reading) (l : List ℕ) → mostBytes < length l → lineOf R l ≡ refused 7
 unfolding lineOf
-long-line l h = rw (lt-ltb mostBytes (length l) h)
+long-line R l h = rw (lt-ltb mostBytes (length l) h)
 
-long : (l : List ℕ) → mostBytes < length l → (refusalOf l ≡ 7) × (faultPlace l ≡ 0)
+long : (R : Reading) (l : List ℕ) → mostBytes < length l → (refusalOf R l ≡ 7) × (faultPlace R l ≡ 0)
 unfolding refusalOf faultPlace refused
-long l h = rw (long-line l h) (refl, refl)
+long R l h = rw (long-line R l h) (refl, refl)
 
-pub same-long : (l m : List ℕ) → mostBytes < length l → mostBytes < length m → answerLine l ≡ answerLine m
+pub same-long : (R : Reading) (l m : List ℕ) → mostBytes < length l → mostBytes < length m → answerLine R l ≡ answerLine R m
 unfolding answerLine answerText
-same-long l m h k = rw (long l h .0, long l h .1, long m k .0, long m k .1)
+same-long R l m h k = rw (long R l h .0, long R l h .1, long R m k .0, long R m k .1)
 
-module _ (s rest : List ℕ) where
-  printed-ended : newlineAt s < length s → printed (s ++ rest) ≡ answerLine (take (newlineAt s) s) ++ printed (drop (suc (newlineAt s)) s ++ rest)
+module _ (R : Reading) (s rest : List ℕ) where
+  printed-ended : newlineAt s < length s → printed R (s ++ rest) ≡ answerLine R (take (newlineAt s) s) ++ printed R (drop (suc (newlineAt s)) s ++ rest)
   unfolding printed answerLines
   printed-ended h = rw (lines-ended rest s h)
 
-  printed-open : newlineAt s ≡ length s → 0 < length s → printed (s ++ rest) ≡ answerLine (s ++ take (newlineAt rest) rest) ++ printed (afterNewline rest)
+  printed-open : newlineAt s ≡ length s → 0 < length s → printed R (s ++ rest) ≡ answerLine R (s ++ take (newlineAt rest) rest) ++ printed R (afterNewline rest)
   unfolding printed answerLines
   printed-open h p = rw (lines-open rest s h p)
 
   -- one line
   pub piece : (skip last : Bool) → (last ≡ true → rest ≡ [])
-      → printedFrom skip (s ++ rest) ≡ pieceText skip last s ++ printedFrom (pieceSkip skip s) (drop (pieceSize skip last s) s ++ rest)
+      → printedFrom R skip (s ++ rest) ≡ pieceText R skip last s ++ printedFrom R (pieceSkip skip s) (drop (pieceSize skip last s) s ++ rest)
   unfolding printedFrom pieceText pieceSkip pieceSize due placeOf afterNewline
   piece skip last end = by (ended s) refl skip
     where
       last-by : (q : Bool) → ltb 0 (length s) ≡ q → over s ≡ false → ended s ≡ false → newlineAt s ≡ length s → rest ≡ []
-          → printedFrom false (s ++ rest) ≡ pieceText false true s ++ printedFrom (pieceSkip false s) (drop (pieceSize false true s) s ++ rest)
+          → printedFrom R false (s ++ rest) ≡ pieceText R false true s ++ printedFrom R (pieceSkip false s) (drop (pieceSize false true s) s ++ rest)
       last-by true g e f n z =
           rw (f, e, g, drop-length s, take-all (newlineAt s) s (omega arith))
           (printed-open n (ltb-true 0 (length s) g) ∙ rw (z, append-nil s))
       last-by false g e f n z =
           let k : 0 ≡ length s = omega (arith, ltb-false 0 (length s) g) in
-          rw (f, e, g, drop-length s) (ap (λ (l : List ℕ). printed (l ++ rest)) (ap (λ (i : ℕ). drop i s) k ∙ drop-length s))
+          rw (f, e, g, drop-length s) (ap (λ (l : List ℕ). printed R (l ++ rest)) (ap (λ (i : ℕ). drop i s) k ∙ drop-length s))
 
       open-by : (o : Bool) → over s ≡ o → ended s ≡ false → newlineAt s ≡ length s → (last : Bool) → (last ≡ true → rest ≡ [])
-          → printedFrom false (s ++ rest) ≡ pieceText false last s ++ printedFrom (pieceSkip false s) (drop (pieceSize false last s) s ++ rest)
+          → printedFrom R false (s ++ rest) ≡ pieceText R false last s ++ printedFrom R (pieceSkip false s) (drop (pieceSize false last s) s ++ rest)
       open-by true e f n l end =
           let h : mostBytes < length s = ltb-true mostBytes (length s) e in
           rw (f, e, drop-length s, take-all (newlineAt s) s (omega arith))
-          (printed-open n (omega arith) ∙ ap (λ (t : List ℕ). t ++ printed (afterNewline rest)) (same-long _ s (omega (arith, length-append s (take (newlineAt rest) rest))) h))
+          (printed-open n (omega arith) ∙ ap (λ (t : List ℕ). t ++ printed R (afterNewline rest)) (same-long R _ s (omega (arith, length-append s (take (newlineAt rest) rest))) h))
       open-by false e f n false end = rw (f, e)
       open-by false e f n true end = last-by (ltb 0 (length s)) refl e f n (end refl)
 
       by : (b : Bool) → ended s ≡ b → (skip : Bool)
-          → printedFrom skip (s ++ rest) ≡ pieceText skip last s ++ printedFrom (pieceSkip skip s) (drop (pieceSize skip last s) s ++ rest)
+          → printedFrom R skip (s ++ rest) ≡ pieceText R skip last s ++ printedFrom R (pieceSkip skip s) (drop (pieceSize skip last s) s ++ rest)
       by true e true = rw (e, after-ended rest s (ltb-true (newlineAt s) (length s) e))
       by true e false = rw e (printed-ended (ltb-true (newlineAt s) (length s) e))
       by false e true =
@@ -77,30 +78,30 @@ module _ (s rest : List ℕ) where
           let n : newlineAt s ≡ length s = omega (arith, place-le 10 s, ltb-false (newlineAt s) (length s) e) in
           open-by (over s) refl e n last end
 
-pub part : (n : ℕ) (skip last : Bool) (s rest : List ℕ) → (last ≡ true → rest ≡ [])
-    → printedFrom skip (s ++ rest) ≡ partText n skip last s ++ printedFrom (partSkip n skip last s) (drop (partSize n skip last s) s ++ rest)
+pub part : (R : Reading) (n : ℕ) (skip last : Bool) (s rest : List ℕ) → (last ≡ true → rest ≡ [])
+    → printedFrom R skip (s ++ rest) ≡ partText R n skip last s ++ printedFrom R (partSkip n skip last s) (drop (partSize n skip last s) s ++ rest)
 unfolding partText partSkip partSize
-part zero skip last s rest end = refl
-part (suc n) skip last s rest end =
+part R zero skip last s rest end = refl
+part R (suc n) skip last s rest end =
     let d : List ℕ = drop (pieceSize skip last s) s in
     let k : Bool = pieceSkip skip s in
-    piece s rest skip last end
-    ∙ ap (λ (t : List ℕ). pieceText skip last s ++ t) (part n k last d rest end)
-    ∙ sym (append-assoc (pieceText skip last s) (partText n k last d) _)
-    ∙ ap (λ (t : List ℕ). (pieceText skip last s ++ partText n k last d) ++ printedFrom (partSkip n k last d) (t ++ rest)) (drop-drop (partSize n k last d) (pieceSize skip last s) s)
+    piece R s rest skip last end
+    ∙ ap (λ (t : List ℕ). pieceText R skip last s ++ t) (part R n k last d rest end)
+    ∙ sym (append-assoc (pieceText R skip last s) (partText R n k last d) _)
+    ∙ ap (λ (t : List ℕ). (pieceText R skip last s ++ partText R n k last d) ++ printedFrom R (partSkip n k last d) (t ++ rest)) (drop-drop (partSize n k last d) (pieceSize skip last s) s)
 
-none : (skip : Bool) → [] ≡ printedFrom skip []
+none : (R : Reading) (skip : Bool) → [] ≡ printedFrom R skip []
 unfolding printedFrom printed answerLines lines afterNewline
-none true = refl
-none false = refl
+none R true = refl
+none R false = refl
 
 -- every run writes what is printed for what is held and what is still to be read
-pub whole : {skip : Bool} {held rest out : List ℕ} → Run skip held rest out → out ≡ printedFrom skip (held ++ rest)
-whole (reads held more rest r) = whole r ∙ ap (printedFrom _) (append-assoc held more rest)
-whole (writes n skip last held rest end r) = ap (λ (t : List ℕ). partText n skip last held ++ t) (whole r) ∙ sym (part n skip last held rest end)
-whole (ends {skip}) = none skip
+pub whole : {R : Reading} {skip : Bool} {held rest out : List ℕ} → Run R skip held rest out → out ≡ printedFrom R skip (held ++ rest)
+whole {R} (reads held more rest r) = whole r ∙ ap (printedFrom R _) (append-assoc held more rest)
+whole {R} (writes n skip last held rest end r) = ap (λ (t : List ℕ). partText R n skip last held ++ t) (whole r) ∙ sym (part _ n skip last held rest end)
+whole (ends {skip}) = none _ skip
 
-pub stream : {input out : List ℕ} → Run false [] input out → out ≡ printed input
+pub stream : {R : Reading} {input out : List ℕ} → Run R false [] input out → out ≡ printed R input
 unfolding printedFrom
 stream r = whole r
 
@@ -144,27 +145,27 @@ held-none n skip s h z = by (ended s) (over s) skip (first-size n skip true s h 
     by false false false z = nil s z
 
 -- a run that there is from a state, with what it writes
-pub record Ran (skip : Bool) (held rest : List ℕ) : Type 0 where
+pub record Ran (R : Reading) (skip : Bool) (held rest : List ℕ) : Type 0 where
   pub out : List ℕ
-  pub run : Run skip held rest out
+  pub run : Run R skip held rest out
 
 -- with room for one answer, all that is held is answered in the end
-drained : (k n : ℕ) (skip : Bool) (held : List ℕ) → 0 < n → length held ≤ k → Ran skip held []
-drained zero n skip held h l =
+drained : (R : Reading) (k n : ℕ) (skip : Bool) (held : List ℕ) → 0 < n → length held ≤ k → Ran R skip held []
+drained R zero n skip held h l =
     let e : held ≡ [] = nil held (omega (arith, l)) in
     rw e (record { out = []; run = ends })
-drained (suc k) n skip held h l = by (eqb (partSize n skip true held) 0) refl (drained k n (partSkip n skip true held) (drop (partSize n skip true held) held) h)
+drained R (suc k) n skip held h l = by (eqb (partSize n skip true held) 0) refl (drained R k n (partSkip n skip true held) (drop (partSize n skip true held) held) h)
   where
     by : (b : Bool) → eqb (partSize n skip true held) 0 ≡ b
-        → (length (drop (partSize n skip true held) held) ≤ k → Ran (partSkip n skip true held) (drop (partSize n skip true held) held) []) → Ran skip held []
+        → (length (drop (partSize n skip true held) held) ≤ k → Ran R (partSkip n skip true held) (drop (partSize n skip true held) held) []) → Ran R skip held []
     by true e more = rw (held-none n skip held h (eqb-true (partSize n skip true held) 0 e)) (record { out = []; run = ends })
     by false e more =
         let s : 0 < partSize n skip true held = omega (arith, eqb-false (partSize n skip true held) 0 e) in
         let r = more (omega (arith, length-drop (partSize n skip true held) held)) in
-        record { out = partText n skip true held ++ r .out; run = writes n skip true held [] (λ e. refl) (r .run) }
+        record { out = partText R n skip true held ++ r .out; run = writes n skip true held [] (λ e. refl) (r .run) }
 
 -- so every input has a run, and by `stream` all its runs write the same
-pub some-run : (input : List ℕ) → Ran false [] input
-some-run input =
-    let r = drained (length input) 1 false input (omega arith) (omega arith) in
+pub some-run : (R : Reading) (input : List ℕ) → Ran R false [] input
+some-run R input =
+    let r = drained R (length input) 1 false input (omega arith) (omega arith) in
     rw (← append-nil input) (record { out = r .out; run = reads [] input [] (r .run) })

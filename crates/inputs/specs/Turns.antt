@@ -6,6 +6,7 @@ use mathlib.Core.List.{List, [], _++_}
 use mathlib.Core.Logic.{_⊎_}
 use mathlib.Core.Path.{_≡_}
 use lib.ListN.{length}
+use Rattle.readings.specs.declared.Reading.{Reading}
 use Rattle.cutting.specs.Cutting.{heldOf}
 use Rattle.stream.specs.Stream.{startOf, stepLines, stepOf, bufferOf, textOf}
 use Rattle.inputs.specs.Runs.{readOf}
@@ -21,31 +22,31 @@ pub record Filled (b : List ℕ) (h : Held) (next : List ℕ) (r : Held) : Type 
   pub state : r ≡ readOf h (length more)
 
 -- One turn: a step, and a read where it asks for that.
-pub data Turn (n : ℕ) (b : List ℕ) (h : Held) : List ℕ → Held → Type 0 where
-  goes : stepOf n b h .reads ≡ false → Turn n b h (bufferOf n b h) (stepOf n b h)
-  gets : {next : List ℕ} {r : Held} → stepOf n b h .reads ≡ true → Filled (bufferOf n b h) (stepOf n b h) next r → Turn n b h next r
+pub data Turn (R : Reading) (n : ℕ) (b : List ℕ) (h : Held) : List ℕ → Held → Type 0 where
+  goes : stepOf R n b h .reads ≡ false → Turn R n b h (bufferOf R n b h) (stepOf R n b h)
+  gets : {next : List ℕ} {r : Held} → stepOf R n b h .reads ≡ true → Filled (bufferOf R n b h) (stepOf R n b h) next r → Turn R n b h next r
 
-unfoldable pub turnRead : {n : ℕ} {b : List ℕ} {h : Held} {next : List ℕ} {r : Held} → Turn n b h next r → List ℕ
+unfoldable pub turnRead : {R : Reading} {n : ℕ} {b : List ℕ} {h : Held} {next : List ℕ} {r : Held} → Turn R n b h next r → List ℕ
 turnRead (goes f) = []
 turnRead (gets f g) = g .more
 
 -- Turn after turn, and how many.
-pub data Turns (n : ℕ) (b : List ℕ) (h : Held) : ℕ → List ℕ → Held → Type 0 where
-  begins : Turns n b h 0 b h
-  follows : {k : ℕ} {mid : List ℕ} {m : Held} {next : List ℕ} {r : Held} → Turns n b h k mid m → Turn n mid m next r → Turns n b h (suc k) next r
+pub data Turns (R : Reading) (n : ℕ) (b : List ℕ) (h : Held) : ℕ → List ℕ → Held → Type 0 where
+  begins : Turns R n b h 0 b h
+  follows : {k : ℕ} {mid : List ℕ} {m : Held} {next : List ℕ} {r : Held} → Turns R n b h k mid m → Turn R n mid m next r → Turns R n b h (suc k) next r
 
 -- all that they read, and the texts of their steps
-unfoldable pub allRead : {n : ℕ} {b : List ℕ} {h : Held} {k : ℕ} {next : List ℕ} {r : Held} → Turns n b h k next r → List ℕ
+unfoldable pub allRead : {R : Reading} {n : ℕ} {b : List ℕ} {h : Held} {k : ℕ} {next : List ℕ} {r : Held} → Turns R n b h k next r → List ℕ
 allRead begins = []
 allRead (follows t u) = allRead t ++ turnRead u
 
-unfoldable pub allText : {n : ℕ} {b : List ℕ} {h : Held} {k : ℕ} {next : List ℕ} {r : Held} → Turns n b h k next r → List ℕ
+unfoldable pub allText : {R : Reading} {n : ℕ} {b : List ℕ} {h : Held} {k : ℕ} {next : List ℕ} {r : Held} → Turns R n b h k next r → List ℕ
 allText begins = []
-allText {n} (follows {mid = mid} {m = m} t u) = allText t ++ textOf n mid m
+allText {R} {n} (follows {mid = mid} {m = m} t u) = allText t ++ textOf R n mid m
 
 -- From before anything is read, until all is done, or for as many turns as are counted.
-pub record Pumped (b next : List ℕ) : Type 0 where
+pub record Pumped (R : Reading) (b next : List ℕ) : Type 0 where
   pub count : ℕ
   pub held : Held
-  pub turns : Turns stepLines b startOf count next held
+  pub turns : Turns R stepLines b startOf count next held
   pub until : (held .done ≡ true) ⊎ (count ≡ 2 ^ 64 - 1)

@@ -9,6 +9,7 @@ use native.Mathlib.Omega.{arith}
 use borrow.Author.Tests.{eqb-true, eqb-false, leb-true}
 use lib.Dec.{eqb, ltb, leb}
 use lib.ListN.{length}
+use Rattle.readings.specs.declared.Reading.{Reading}
 use Rattle.values.specs.declared.Kind.{Kind}
 use Rattle.values.specs.declared.Kind.the-variants.{Empty}
 use Rattle.values.specs.declared.Value.{Value}
@@ -20,7 +21,7 @@ use Rattle.calls.specs.declared.Call.{Call}
 use Rattle.calls.specs.Table.{Row, Absent, Unary, Binary, Ternary, Cast, takes}
 use Rattle.calls.specs.Refuse as Refuse
 use Rattle.calls.specs.Refuse.{inTable, arity, formed, takenAlone, takenTogether, sized, firstOf, judged}
-use Rattle.builtins.specs.Fold.{refused, answered, answeredTwice, answeredLosing, answerBy, foldBy, foldOf}
+use Rattle.builtins.specs.Fold.{refused, answered, answeredTwice, answeredLosing, answerBy, foldBy, foldIn}
 use Rattle.buffers.specs.Text.{sameBytes}
 use Rattle.buffers.proofs.Lookup.{found, same-true, same-itself}
 use Rattle.spelling.specs.declared.Fault.{Fault}
@@ -140,40 +141,40 @@ module _ (row : Row) (n : ℕ) (t : Kind) (a b c : Value) where
   judged-most = at-most-6 (inTable row) (eqb n (arity row)) (formed row t a b c) (takenAlone row t (a .kind) (b .kind) (c .kind)) (takenTogether row (a .kind) (b .kind) (c .kind)) (sized row t (a .kind))
 
 -- what a builtin answers has no refusal, but Unknown's 1
-answer-most : (which : Builtin) (t : Kind) (a b c : Value) → answerBy which t a b c .refusal ≤ 1
+answer-most : (R : Reading) (which : Builtin) (t : Kind) (a b c : Value) → answerBy R which t a b c .refusal ≤ 1
 unfolding answered answeredTwice answeredLosing refused
-answer-most which t a b c = leb-true _ 1 (each-builtin (λ w. leb (answerBy w t a b c .refusal) 1) refl which)
+answer-most R which t a b c = leb-true _ 1 (each-builtin (λ w. leb (answerBy R w t a b c .refusal) 1) refl which)
 
-fold-3 : (m : ℕ) (c : Call) → foldBy m c .refusal ≡ 3 → m ≡ 3
+fold-3 : (R : Reading) (m : ℕ) (c : Call) → foldBy R m c .refusal ≡ 3 → m ≡ 3
 unfolding refused
-fold-3 zero c e = absurd (omega (arith, e, answer-most (c .builtin) (c .target) (c .a) (c .b) (c .c)))
-fold-3 (suc m) c e = e
+fold-3 R zero c e = absurd (omega (arith, e, answer-most R (c .builtin) (c .target) (c .a) (c .b) (c .c)))
+fold-3 R (suc m) c e = e
 
-fold-most : (m : ℕ) (c : Call) → m ≤ 6 → foldBy m c .refusal ≤ 6
+fold-most : (R : Reading) (m : ℕ) (c : Call) → m ≤ 6 → foldBy R m c .refusal ≤ 6
 unfolding refused
-fold-most zero c h = omega (arith, answer-most (c .builtin) (c .target) (c .a) (c .b) (c .c))
-fold-most (suc m) c h = h
+fold-most R zero c h = omega (arith, answer-most R (c .builtin) (c .target) (c .a) (c .b) (c .c))
+fold-most R (suc m) c h = h
 
 -- ---- and a line
 
-module _ (line : List ℕ) where
-  line-3 : lineOf line .refusal ≡ 3 → Refuse.refusalOf (callOf line) ≡ 3
-  unfolding lineOf refused foldOf
+module _ (R : Reading) (line : List ℕ) where
+  line-3 : lineOf R line .refusal ≡ 3 → Refuse.refusalOf (callOf line) ≡ 3
+  unfolding lineOf refused foldIn
   line-3 = by (ltb mostBytes (length line))
     where
-      by : (t : Bool) → cond t (refused 7) (foldOf (callOf line)) .refusal ≡ 3 → Refuse.refusalOf (callOf line) ≡ 3
+      by : (t : Bool) → cond t (refused 7) (foldIn R (callOf line)) .refusal ≡ 3 → Refuse.refusalOf (callOf line) ≡ 3
       by true e = absurd (omega arith)
-      by false e = fold-3 (Refuse.refusalOf (callOf line)) (callOf line) e
+      by false e = fold-3 R (Refuse.refusalOf (callOf line)) (callOf line) e
 
-  line-most : lineOf line .refusal ≤ 7
-  unfolding lineOf refused foldOf
+  line-most : lineOf R line .refusal ≤ 7
+  unfolding lineOf refused foldIn
   line-most = by (ltb mostBytes (length line))
     where
-      by : (t : Bool) → cond t (refused 7) (foldOf (callOf line)) .refusal ≤ 7
+      by : (t : Bool) → cond t (refused 7) (foldIn R (callOf line)) .refusal ≤ 7
       by true = omega arith
       by false =
           let c = callOf line in
-          omega (arith, fold-most (Refuse.refusalOf c) c (judged-most (takes (c .builtin)) (c .count) (c .target) (c .a) (c .b) (c .c)))
+          omega (arith, fold-most R (Refuse.refusalOf c) c (judged-most (takes (c .builtin)) (c .count) (c .target) (c .a) (c .b) (c .c)))
 
   rightly-not-3 : AllRightly (isCast line) line → Refuse.refusalOf (callOf line) ≡ 3 → ⊥
   unfolding callOf castCall plainCall
@@ -195,23 +196,23 @@ module _ (line : List ℕ) where
           false≢true (sym (j .1) ∙ plain-formed line h row (not-cast (fieldAt line 0) i) (j .0))
 
   -- what is told in 3's place has its number and its place
-  pub three-misspelled : lineOf line .refusal ≡ 3 → Numbered (faultOf line)
+  pub three-misspelled : lineOf R line .refusal ≡ 3 → Numbered (faultOf line)
   three-misspelled e =
       ⊎-elim (λ r. absurd (rightly-not-3 (all-rightly (isCast line) line (ap (λ (m : Misspelling). m .refusal) r)) (line-3 e))) (λ n. n) (numbered (isCast line) line)
 
-  pub none-told : refusalOf line ≡ 0 → lineOf line .refusal ≡ 0
+  pub none-told : refusalOf R line ≡ 0 → lineOf R line .refusal ≡ 0
   unfolding refusalOf
-  none-told = by (eqb (lineOf line .refusal) 3) refl
+  none-told = by (eqb (lineOf R line .refusal) 3) refl
     where
-      by : (t : Bool) → eqb (lineOf line .refusal) 3 ≡ t → cond t (faultOf line .refusal) (lineOf line .refusal) ≡ 0 → lineOf line .refusal ≡ 0
+      by : (t : Bool) → eqb (lineOf R line .refusal) 3 ≡ t → cond t (faultOf line .refusal) (lineOf R line .refusal) ≡ 0 → lineOf R line .refusal ≡ 0
       by true e z = let n = three-misspelled (eqb-true _ 3 e) in absurd (omega (arith, n .least))
       by false e z = z
 
-  pub told : Told line
+  pub told : Told R line
   unfolding refusalOf faultPlace
-  told = by (eqb (lineOf line .refusal) 3) refl
+  told = by (eqb (lineOf R line .refusal) 3) refl
     where
-      by : (t : Bool) → eqb (lineOf line .refusal) 3 ≡ t → Told line
+      by : (t : Bool) → eqb (lineOf R line .refusal) 3 ≡ t → Told R line
       by true e =
           let n = three-misspelled (eqb-true _ 3 e) in
           record {

@@ -7,7 +7,8 @@ use native.Mathlib.Omega.{arith}
 use borrow.Author.Tests.{eq-eqb, ne-eqb, ltb-false}
 use lib.Dec.{eqb, ltb}
 use lib.ListN.{length}
-use Rattle.builtins.specs.Fold.{refused, foldOf}
+use Rattle.readings.specs.declared.Reading.{Reading}
+use Rattle.builtins.specs.Fold.{refused, foldIn}
 use Rattle.cutting.specs.Cutting.{mostBytes}
 use Rattle.misspellings.proofs.MostPlaces.{fault-within}
 use Rattle.answers.specs.declared.LineAnswer.{LineAnswer}
@@ -17,63 +18,63 @@ use Rattle.lines.specs.Line.{isCast, callOf, lineOf, faultOf, inPlaceOf3
 use Rattle.lines.specs.Program.{misspelledLine}
 use Rattle.lines.proofs.Misspelt.{none-told, told}
 
-module _ (room : ℕ) (line : List ℕ) where
-  pub in-refused : (refusalOf line ≡ 0 → ⊥) → (refusalIn room line ≡ refusalOf line) × (writtenIn room line ≡ [])
+module _ (R : Reading) (room : ℕ) (line : List ℕ) where
+  pub in-refused : (refusalOf R line ≡ 0 → ⊥) → (refusalIn R room line ≡ refusalOf R line) × (writtenIn R room line ≡ [])
   unfolding refusalOf refusalIn writtenIn
   in-refused h =
-      let w = Answer.in-refused room (lineOf line) (λ z. h (ap (λ (n : ℕ). inPlaceOf3 n line) z)) in
+      let w = Answer.in-refused room (lineOf R line) (λ z. h (ap (λ (n : ℕ). inPlaceOf3 n line) z)) in
       (ap (λ (n : ℕ). inPlaceOf3 n line) (w .0), w .1)
 
-  pub in-room : refusalOf line ≡ 0 → length (answerOf line) ≤ room → (refusalIn room line ≡ 0) × (writtenIn room line ≡ answerOf line)
+  pub in-room : refusalOf R line ≡ 0 → length (answerOf R line) ≤ room → (refusalIn R room line ≡ 0) × (writtenIn R room line ≡ answerOf R line)
   unfolding answerOf refusalIn writtenIn
   in-room z h =
-      let w = Answer.in-room room (lineOf line) (none-told line z) h in
+      let w = Answer.in-room room (lineOf R line) (none-told R line z) h in
       (ap (λ (n : ℕ). inPlaceOf3 n line) (w .0), w .1)
 
 -- ---- what the code gives, by the refusal of the call
 
-module _ (room : ℕ) (line : List ℕ) where
-  told-not-3 : (lineOf line .refusal ≡ 3 → ⊥) → toldIn room (lineOf line) ≡ 3 → ⊥
+module _ (R : Reading) (room : ℕ) (line : List ℕ) where
+  told-not-3 : (lineOf R line .refusal ≡ 3 → ⊥) → toldIn room (lineOf R line) ≡ 3 → ⊥
   unfolding toldIn
-  told-not-3 h = by (eqb (lineOf line .refusal) 0) (ltb room (length (valuesText (lineOf line))))
+  told-not-3 h = by (eqb (lineOf R line .refusal) 0) (ltb room (length (valuesText (lineOf R line))))
     where
-      by : (s t : Bool) → cond s (cond t 8 0) (lineOf line .refusal) ≡ 3 → ⊥
+      by : (s t : Bool) → cond s (cond t 8 0) (lineOf R line .refusal) ≡ 3 → ⊥
       by true true e = omega arith
       by true false e = omega arith
       by false t e = h e
 
   -- where it is not 3, what answers gives
-  pub answered-line : (lineOf line .refusal ≡ 3 → ⊥) → {r : LineAnswer} → r ≡ answeredIn room (lineOf line) → r ≡ lineAnswer room line
+  pub answered-line : (lineOf R line .refusal ≡ 3 → ⊥) → {r : LineAnswer} → r ≡ answeredIn room (lineOf R line) → r ≡ lineAnswer R room line
   unfolding answeredIn lineAnswer refusalIn writtenIn faultPlace
   answered-line h e = e ∙ rw (ne-eqb _ _ h, ne-eqb _ _ (told-not-3 h))
 
   -- where it is 3, the misspelling
-  pub misspelled-line : lineOf line .refusal ≡ 3 → {r : LineAnswer} → r ≡ misspelledLine line → (r ≡ lineAnswer room line) × (writtenIn room line ≡ [])
+  pub misspelled-line : lineOf R line .refusal ≡ 3 → {r : LineAnswer} → r ≡ misspelledLine line → (r ≡ lineAnswer R room line) × (writtenIn R room line ≡ [])
   unfolding lineAnswer refusalIn writtenIn faultPlace
   misspelled-line z e =
-      let w = Answer.in-refused room (lineOf line) (λ q. omega arith) in
+      let w = Answer.in-refused room (lineOf R line) (λ q. omega arith) in
       (e ∙ rw (w .0, w .1, eq-eqb _ _ z), w .1)
 
-pub answer-most : (line : List ℕ) → length (answerOf line) ≤ 311
+pub answer-most : (R : Reading) (line : List ℕ) → length (answerOf R line) ≤ 311
 unfolding answerOf
-answer-most line = Answer.values-most (lineOf line)
+answer-most R line = Answer.values-most (lineOf R line)
 
 -- ---- the place of a fault
 
-pub no-place : (line : List ℕ) → refusalOf line ≡ 0 → faultPlace line ≡ 0
-no-place line z = told line .unplaced (omega arith)
+pub no-place : (R : Reading) (line : List ℕ) → refusalOf R line ≡ 0 → faultPlace R line ≡ 0
+no-place R line z = told R line .unplaced (omega arith)
 
 -- a line that is read has at most 400 bytes
-pub place-most : (line : List ℕ) → faultPlace line ≤ 558
+pub place-most : (R : Reading) (line : List ℕ) → faultPlace R line ≤ 558
 unfolding faultPlace lineOf refused
-place-most line = by (ltb mostBytes (length line)) refl
+place-most R line = by (ltb mostBytes (length line)) refl
   where
     at-most : (t : Bool) → faultOf line .place ≤ 558 → cond t (faultOf line .place) 0 ≤ 558
     at-most true h = h
     at-most false h = omega arith
 
-    by : (t : Bool) → ltb mostBytes (length line) ≡ t → cond (eqb (cond t (refused 7) (foldOf (callOf line)) .refusal) 3) (faultOf line .place) 0 ≤ 558
+    by : (t : Bool) → ltb mostBytes (length line) ≡ t → cond (eqb (cond t (refused 7) (foldIn R (callOf line)) .refusal) 3) (faultOf line .place) 0 ≤ 558
     by true e = omega arith
     by false e =
         let h = ltb-false mostBytes (length line) e in
-        at-most (eqb (foldOf (callOf line) .refusal) 3) (omega (arith, fault-within (isCast line) line))
+        at-most (eqb (foldIn R (callOf line) .refusal) 3) (omega (arith, fault-within (isCast line) line))

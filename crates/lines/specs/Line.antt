@@ -1,9 +1,10 @@
--- What a line gives: 01, "Lines". Definitions only.
+-- What a line gives in a reading: 01, "Lines". Definitions only.
 use Prim.Native.Nat.{ℕ}
 use mathlib.Core.Bool.{Bool, cond}
 use mathlib.Core.List.{List}
 use lib.Dec.{eqb, ltb}
 use lib.ListN.{length}
+use Rattle.readings.specs.declared.Reading.{Reading}
 use Rattle.values.specs.declared.Kind.{Kind}
 use Rattle.values.specs.declared.Kind.the-variants.{Empty}
 use Rattle.values.specs.declared.Value.{Value}
@@ -12,7 +13,7 @@ use Rattle.calls.specs.declared.Builtin.{Builtin}
 use Rattle.calls.specs.declared.Builtin.the-variants.{Bitcast}
 use Rattle.calls.specs.declared.Call.{Call}
 use Rattle.builtins.specs.declared.Answer.{Answer}
-use Rattle.builtins.specs.Fold.{refused, foldOf}
+use Rattle.builtins.specs.Fold.{refused, foldIn}
 use Rattle.buffers.specs.Text.{sameBytes}
 use Rattle.cutting.specs.Cutting.{mostBytes}
 use Rattle.spelling.specs.Types.{kindOf}
@@ -50,11 +51,11 @@ callOf line =
 -- ---- its answer
 
 -- "7: the line has more than 400 bytes, newline not counted"
-unfoldable pub lineOf : List ℕ → Answer
-lineOf line = cond (ltb mostBytes (length line)) (refused 7) (foldOf (callOf line))
+unfoldable pub lineOf : Reading → List ℕ → Answer
+lineOf r line = cond (ltb mostBytes (length line)) (refused 7) (foldIn r (callOf line))
 
-unfoldable pub answerOf : List ℕ → List ℕ
-answerOf line = valuesText (lineOf line)
+unfoldable pub answerOf : Reading → List ℕ → List ℕ
+answerOf r line = valuesText (lineOf r line)
 
 -- ---- its refusal: "9 type spelling or colon, 10 lane count, 11 digit; in lines they replace 3, in its place in the order, the leftmost fault first"
 
@@ -65,20 +66,20 @@ faultOf line = lineFault (isCast line) line
 abbrev pub inPlaceOf3 : ℕ → List ℕ → ℕ
 inPlaceOf3 n line = cond (eqb n 3) (faultOf line .refusal) n
 
-unfoldable pub refusalOf : List ℕ → ℕ
-refusalOf line = inPlaceOf3 (lineOf line .refusal) line
+unfoldable pub refusalOf : Reading → List ℕ → ℕ
+refusalOf r line = inPlaceOf3 (lineOf r line .refusal) line
 
 -- "the byte counted from 1 in the line"; 0 where no misspelling is told
-unfoldable pub faultPlace : List ℕ → ℕ
-faultPlace line = cond (eqb (lineOf line .refusal) 3) (faultOf line .place) 0
+unfoldable pub faultPlace : Reading → List ℕ → ℕ
+faultPlace r line = cond (eqb (lineOf r line .refusal) 3) (faultOf line .place) 0
 
 -- ---- a line's answer in lent memory of a size
 
-unfoldable pub refusalIn : ℕ → List ℕ → ℕ
-refusalIn room line = inPlaceOf3 (toldIn room (lineOf line)) line
+unfoldable pub refusalIn : Reading → ℕ → List ℕ → ℕ
+refusalIn r room line = inPlaceOf3 (toldIn room (lineOf r line)) line
 
-unfoldable pub writtenIn : ℕ → List ℕ → List ℕ
-writtenIn room line = spelledIn room (lineOf line)
+unfoldable pub writtenIn : Reading → ℕ → List ℕ → List ℕ
+writtenIn r room line = spelledIn room (lineOf r line)
 
-unfoldable pub lineAnswer : ℕ → List ℕ → LineAnswer
-lineAnswer room line = record { refusal = refusalIn room line; len = length (writtenIn room line); place = faultPlace line }
+unfoldable pub lineAnswer : Reading → ℕ → List ℕ → LineAnswer
+lineAnswer r room line = record { refusal = refusalIn r room line; len = length (writtenIn r room line); place = faultPlace r line }

@@ -12,13 +12,14 @@ use lib.ListN.{length, length-append}
 use lib.Seq.{take-append-seam, drop-append-add}
 use borrow.Author.Tests.{eqb-true, eqb-false}
 use Rattle.values.specs.declared.Value.{Value}
+use Rattle.readings.specs.declared.Reading.{Reading}
 use Rattle.values.specs.Value.{isType, shaped, emptyValue}
 use Rattle.values.specs.declared.Scalar.the-variants.{I32}
 use Rattle.values.proofs.Bools.{and, every-both}
 use Rattle.values.proofs.Places.{itself}
 use Rattle.calls.specs.declared.Builtin.the-variants.{Bitcast}
 use Rattle.builtins.specs.declared.Answer.{Answer}
-use Rattle.builtins.specs.Fold.{refused, foldOf}
+use Rattle.builtins.specs.Fold.{refused, foldIn}
 use Rattle.formed.specs.Answers.{AnswerFormed, Held}
 use Rattle.formed.proofs.Answered.{answers-formed}
 use Rattle.buffers.specs.Text.{bytes, sameBytes}
@@ -51,13 +52,13 @@ held line = by (sameBytes (nameOf Bitcast) (fieldAt line 0))
     by true = record { a = read-lanes (fieldAt line 2); b = refl; c = refl }
     by false = record { a = read-lanes (fieldAt line 1); b = read-lanes (fieldAt line 2); c = read-lanes (fieldAt line 3) }
 
-line-formed : (line : List ℕ) → refusalOf line ≡ 0 → AnswerFormed (lineOf line)
+line-formed : (R : Reading) (line : List ℕ) → refusalOf R line ≡ 0 → AnswerFormed (lineOf R line)
 unfolding lineOf refused
-line-formed line z = by (ltb mostBytes (length line)) (none-told line z)
+line-formed R line z = by (ltb mostBytes (length line)) (none-told R line z)
   where
-    by : (b : Bool) → cond b (refused 7) (foldOf (callOf line)) .refusal ≡ 0 → AnswerFormed (cond b (refused 7) (foldOf (callOf line)))
+    by : (b : Bool) → cond b (refused 7) (foldIn R (callOf line)) .refusal ≡ 0 → AnswerFormed (cond b (refused 7) (foldIn R (callOf line)))
     by true e = absurd (omega arith)
-    by false e = answers-formed (callOf line) (held line) e
+    by false e = answers-formed R (callOf line) (held line) e
 
 answer-ok : (a : Answer) → AnswerFormed a → readAnswer (textOf (a .first) ++ secondText (a .second)) .ok ≡ true
 unfolding valuesLine isPair
@@ -71,13 +72,13 @@ answer-ok a h =
           rw (second (a .second) (w .good), pair-read (a .first) (a .second) (f .lanes) (f .good) (w .lanes) (w .good) pair)
     ]
 
-pub printed-answer : (l : List ℕ) → readAnswer (answerText l) .ok ≡ true
+pub printed-answer : (R : Reading) (l : List ℕ) → readAnswer (answerText R l) .ok ≡ true
 unfolding answerText answerOf valuesText refusedLine
-printed-answer l = by (eqb (refusalOf l) 0) refl
+printed-answer R l = by (eqb (refusalOf R l) 0) refl
   where
-    by : (b : Bool) → eqb (refusalOf l) 0 ≡ b → readAnswer (cond b (answerOf l) (refusedAt (refusalOf l) (faultPlace l))) .ok ≡ true
-    by true e = answer-ok (lineOf l) (line-formed l (eqb-true (refusalOf l) 0 e))
-    by false e = rw (refusal-read (refusalOf l) (faultPlace l) (eqb-false (refusalOf l) 0 e))
+    by : (b : Bool) → eqb (refusalOf R l) 0 ≡ b → readAnswer (cond b (answerOf R l) (refusedAt (refusalOf R l) (faultPlace R l))) .ok ≡ true
+    by true e = answer-ok (lineOf R l) (line-formed R l (eqb-true (refusalOf R l) 0 e))
+    by false e = rw (refusal-read (refusalOf R l) (faultPlace R l) (eqb-false (refusalOf R l) 0 e))
 
 -- ---- all lines
 
@@ -105,13 +106,13 @@ place-unbroken p = by (eqb p 0)
     by true = refl
     by false = decimal-without 10 (lit< tt) (digits (places p) p) (digits-decimal (places p) p)
 
-answer-unbroken : (l : List ℕ) → without 10 (answerText l) ≡ true
+answer-unbroken : (R : Reading) (l : List ℕ) → without 10 (answerText R l) ≡ true
 unfolding answerText answerOf valuesText
-answer-unbroken l = by (eqb (refusalOf l) 0)
+answer-unbroken R l = by (eqb (refusalOf R l) 0)
   where
-    by : (b : Bool) → without 10 (cond b (answerOf l) (refusedAt (refusalOf l) (faultPlace l))) ≡ true
-    by true = let a = lineOf l in every-both _ (textOf (a .first)) (secondText (a .second)) (text-without 10 (lit< tt) (a .first)) (second-unbroken (a .second))
-    by false = every-both _ (refusedText (refusalOf l)) (placeText (faultPlace l)) (refused-unbroken (refusalOf l)) (place-unbroken (faultPlace l))
+    by : (b : Bool) → without 10 (cond b (answerOf R l) (refusedAt (refusalOf R l) (faultPlace R l))) ≡ true
+    by true = let a = lineOf R l in every-both _ (textOf (a .first)) (secondText (a .second)) (text-without 10 (lit< tt) (a .first)) (second-unbroken (a .second))
+    by false = every-both _ (refusedText (refusalOf R l)) (placeText (faultPlace R l)) (refused-unbroken (refusalOf R l)) (place-unbroken (faultPlace R l))
 
 -- a text without a newline, and a newline, are the first line
 line-first : (t rest : List ℕ) → without 10 t ≡ true → lines ((t ++ (10 ∷ [])) ++ rest) ≡ t ∷ lines rest
@@ -119,12 +120,12 @@ line-first t rest h =
     let e = place-after 10 t [] h in
     lines-ended rest (t ++ (10 ∷ [])) (omega (arith, e, length-append t (10 ∷ []))) ∙ rw (e, take-append-seam t (10 ∷ []), ← add-one (length t), drop-append-add t (10 ∷ []) 1)
 
-all-printed : (ls : List (List ℕ)) → allAnswers (lines (answerLines ls)) ≡ true
+all-printed : (R : Reading) (ls : List (List ℕ)) → allAnswers (lines (answerLines R ls)) ≡ true
 unfolding allAnswers answerLines answerLine lines
-all-printed [] = refl
-all-printed (l ∷ ls) = rw (line-first (answerText l) (answerLines ls) (answer-unbroken l)) (and (printed-answer l) (all-printed ls))
+all-printed R [] = refl
+all-printed R (l ∷ ls) = rw (line-first (answerText R l) (answerLines R ls) (answer-unbroken R l)) (and (printed-answer R l) (all-printed R ls))
 
--- what is printed for all of the input is a listing of answer lines
-pub printed-answers : (s : List ℕ) → allAnswers (lines (printed s)) ≡ true
+-- what is printed for all of the input, in either reading, is a listing of answer lines
+pub printed-answers : (R : Reading) (s : List ℕ) → allAnswers (lines (printed R s)) ≡ true
 unfolding printed
-printed-answers s = all-printed (lines s)
+printed-answers R s = all-printed R (lines s)

@@ -29,11 +29,11 @@ pub record Normal (g : Bool) (w c : ℕ) : Type 0 where
   pub own : normalCode g w c ≡ c
 
 -- up to the scale, and from minus the scale
-from-0 : (g : Bool) (w c : ℕ) → c ≤ scale g w → Normal g w c
+pub from-0 : (g : Bool) (w c : ℕ) → c ≤ scale g w → Normal g w c
 from-0 false w c h = record { below = omega (arith, scale-below false w); own = refl }
 from-0 true w c h = record { below = omega (arith, scale-below true w); own = rw (ne-eqb c (2 ^ (w - 1)) (λ e. omega (arith, pow-pos (w - 1)))) }
 
-below-0 : (w n : ℕ) → 1 ≤ w → n ≤ scale true w → Normal true w (minus w n)
+pub below-0 : (w n : ℕ) → 1 ≤ w → n ≤ scale true w → Normal true w (minus w n)
 below-0 w zero W h = from-0 true w 0 (omega arith)
 below-0 w (suc n) W h =
     let full = twice w W in
@@ -176,13 +176,7 @@ unorm-code w (fin true m e) = subst (λ (n : ℕ). Normal false w (minus w n)) (
     none a = omega arith
 unorm-code w (fin false m e) = plus-code false w (fin false m e) refl
 
-packed : (g : Bool) (w x : ℕ) → 1 ≤ w → w ≤ 16 → Normal g w (packedNorm g w x)
+pub packed : (g : Bool) (w x : ℕ) → 1 ≤ w → w ≤ 16 → Normal g w (packedNorm g w x)
 unfolding packedNorm stepped ofInt
 packed false w x lo hi = unorm-code w (stepped false w (ofBits binary32 x))
 packed true w x lo hi = stepped-code w lo hi (clamped true (ofBits binary32 x)) (clamped-is (ofBits binary32 x))
-
-pub packed-below : (g : Bool) (w x : ℕ) → 1 ≤ w → w ≤ 16 → packedNorm g w x < 2 ^ w
-packed-below g w x lo hi = packed g w x lo hi .below
-
-pub packed-normal : (g : Bool) (w x : ℕ) → 1 ≤ w → w ≤ 16 → normalCode g w (packedNorm g w x) ≡ packedNorm g w x
-packed-normal g w x lo hi = packed g w x lo hi .own

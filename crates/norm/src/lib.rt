@@ -22,7 +22,7 @@ fn whole(n: u32) -> f32
 }
 
 // the code of 1
-fn scale(signed: bool, w: u32) -> u32
+pub fn scale(signed: bool, w: u32) -> u32
     requires { ⌜ (1 ≤ w) × (w ≤ 16) ⌝ }
     ensures { λ r. ⌜ r ≡ Norm.scale signed w ⌝ }
 {
@@ -94,7 +94,7 @@ fn size_up(v: f32) -> u32
     }
 }
 
-fn smaller(a: u32, b: u32) -> u32
+pub fn smaller(a: u32, b: u32) -> u32
     ensures { λ r. ⌜ r ≡ min a b ⌝ }
 {
     if a < b { a } else { b }

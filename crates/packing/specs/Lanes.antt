@@ -1,7 +1,11 @@
--- The integer lanes of packed words. The norm lanes are norm's, the half lanes half's. Definitions only.
-use Prim.Native.Nat.{ℕ, _+_, _*_, _%_, _^_}
-use mathlib.Core.Bool.{cond}
+-- The lanes of packed words in a reading: the integer lanes, and which norm lanes are meant, norm's or exact's. The half lanes are half's. Definitions only.
+use Prim.Native.Nat.{ℕ, _+_, _-_, _*_, _%_, _^_, min, max}
+use mathlib.Core.Bool.{Bool, cond}
 use lib.Dec.{ltb}
+use Rattle.readings.specs.declared.Reading.{Reading}
+use Rattle.readings.specs.declared.Reading.the-variants as In
+use Rattle.norm.specs.Norm.{packedNorm}
+use Rattle.exact.specs.Exact.{exactCode}
 
 -- "pack4xI8 and pack4xU8 keep the low 8 bits of each lane. pack4xU8Clamp also keeps the low 8 bits."
 abbrev pub lowByte : ℕ → ℕ
@@ -18,3 +22,25 @@ plain c = c
 -- lane i of pack4xI8Clamp, which "takes the low 8 bits as signed, extends the sign to 32 bits, shifts to the lane"
 abbrev pub fillingFrom : ℕ → ℕ → ℕ
 fillingFrom x i = extended (lowByte x) * 2 ^ (8 * i) % 2 ^ 32
+
+-- ---- the text's reading
+
+-- "There pack4xI8Clamp clamps to -128..127": a lane from 2 ^ 31 up is that much less 2 ^ 32
+abbrev pub clampedI8 : ℕ → ℕ
+clampedI8 x = lowByte (cond (ltb x (2 ^ 31)) (min x 127) (max x (2 ^ 32 - 128)))
+
+-- "and pack4xU8Clamp to at most 255"
+abbrev pub clampedU8 : ℕ → ℕ
+clampedU8 x = min x 255
+
+-- ---- what the reading chooses
+
+-- a lane of pack4xU8Clamp
+abbrev pub codeU8 : Reading → ℕ → ℕ
+codeU8 In.Crate = lowByte
+codeU8 In.Text = clampedU8
+
+-- "the four norm packers round down the exact value .., not the f32 steps"
+abbrev pub normCode : Reading → Bool → ℕ → ℕ → ℕ
+normCode In.Crate = packedNorm
+normCode In.Text = exactCode

@@ -1,20 +1,25 @@
 // The lanes of packed words. A format is the width of its lanes, 8 or 16, and a coding: how a lane becomes a code of that width, and a code a lane.
+use readings::Reading;
 ghost use mathlib.Core.Path.{_≡_};
+ghost use mathlib.Core.Bool.{true, false};
 ghost use mathlib.Core.List.{[], _∷_, _++_, map};
 ghost use Prim.Native.Nat.{_%_, _^_, _<_, max};
-ghost use lib.ListN.{take, getD};
-ghost use lib.Bits.{bitOr};
+ghost use lib.ListN.{take};
+ghost use Rattle.half.specs.Convert.{halfOf};
 ghost use Rattle.values.specs.Program.{four};
 ghost use Rattle.numeric.specs.Parts.{parts, joined};
 ghost use Rattle.losses.specs.Losses.{largest};
-ghost use Rattle.packing.specs.Lanes.{extended, fillingFrom};
-ghost use Rattle.packing.specs.Program.{code8Of, lane8Of, code16Of, loss16Of, lane16Of, coded};
+ghost use Rattle.packing.specs.Lanes.{extended, fillingFrom, clampedI8, codeU8, normCode};
+ghost use Rattle.packing.specs.Program.{code8Of, lane8Of, code16Of, loss16Of, lane16Of, coded, fillFour, clampFour};
 
+// The clamped ones are the lanes of pack4xI8Clamp, where its lanes are kept apart, and of pack4xU8Clamp.
 pub enum Coding8 {
     Snorm,
     Unorm,
     Signed,
     Unsigned,
+    ClampedSigned,
+    ClampedUnsigned,
 }
 
 pub enum Coding16 {
@@ -37,14 +42,74 @@ fn low16(x: u32) -> u16
     (x % 0x1_0000) as u16
 }
 
-fn code8(t: Coding8, x: u32) -> u8
-    ensures { λ r. ⌜ r ≡ code8Of t x ⌝ }
+fn snorm8(reading: Reading, x: u32) -> u8
+    ensures { λ r. ⌜ r ≡ normCode reading true 8 x ⌝ }
+{
+    match reading {
+        Reading::Crate => low8(norm::pack_snorm8(x)),
+        Reading::Text => low8(exact::pack(true, 8, x)),
+    }
+}
+
+fn unorm8(reading: Reading, x: u32) -> u8
+    ensures { λ r. ⌜ r ≡ normCode reading false 8 x ⌝ }
+{
+    match reading {
+        Reading::Crate => low8(norm::pack_unorm8(x)),
+        Reading::Text => low8(exact::pack(false, 8, x)),
+    }
+}
+
+fn snorm16(reading: Reading, x: u32) -> u16
+    ensures { λ r. ⌜ r ≡ normCode reading true 16 x ⌝ }
+{
+    match reading {
+        Reading::Crate => low16(norm::pack_snorm16(x)),
+        Reading::Text => low16(exact::pack(true, 16, x)),
+    }
+}
+
+fn unorm16(reading: Reading, x: u32) -> u16
+    ensures { λ r. ⌜ r ≡ normCode reading false 16 x ⌝ }
+{
+    match reading {
+        Reading::Crate => low16(norm::pack_unorm16(x)),
+        Reading::Text => low16(exact::pack(false, 16, x)),
+    }
+}
+
+// An i32 lane, by its bits: from the half of them up it is below 0.
+fn clamp_i8(x: u32) -> u8
+    ensures { λ r. ⌜ r ≡ clampedI8 x ⌝ }
+{
+    if x < 0x8000_0000 {
+        low8(norm::smaller(x, 127))
+    } else if x < 0xffff_ff80 {
+        0x80
+    } else {
+        low8(x)
+    }
+}
+
+fn clamp_u8(reading: Reading, x: u32) -> u8
+    ensures { λ r. ⌜ r ≡ codeU8 reading x ⌝ }
+{
+    match reading {
+        Reading::Crate => low8(x),
+        Reading::Text => low8(norm::smaller(x, 255)),
+    }
+}
+
+fn code8(reading: Reading, t: Coding8, x: u32) -> u8
+    ensures { λ r. ⌜ r ≡ code8Of reading t x ⌝ }
 {
     match t {
-        Coding8::Snorm => low8(norm::pack_snorm8(x)),
-        Coding8::Unorm => low8(norm::pack_unorm8(x)),
+        Coding8::Snorm => snorm8(reading, x),
+        Coding8::Unorm => unorm8(reading, x),
         Coding8::Signed => low8(x),
         Coding8::Unsigned => low8(x),
+        Coding8::ClampedSigned => clamp_i8(x),
+        Coding8::ClampedUnsigned => clamp_u8(reading, x),
     }
 }
 
@@ -64,7 +129,7 @@ fn coded(code: u16, loss: u8) -> Coded16
 }
 
 fn coded_half(x: u32) -> Coded16
-    ensures { λ r. ⌜ r ≡ coded (code16Of Coding16.Float x) (loss16Of Coding16.Float x) ⌝ }
+    ensures { λ r. ⌜ r ≡ coded (halfOf x) (loss16Of Coding16.Float x) ⌝ }
 {
     let c = losses::f32_to_f16_told(x);
     let loss = c.loss;
@@ -72,12 +137,12 @@ fn coded_half(x: u32) -> Coded16
 }
 
 // Only a half tells what it lost.
-fn code16(t: Coding16, x: u32) -> Coded16
-    ensures { λ r. ⌜ r ≡ coded (code16Of t x) (loss16Of t x) ⌝ }
+fn code16(reading: Reading, t: Coding16, x: u32) -> Coded16
+    ensures { λ r. ⌜ r ≡ coded (code16Of reading t x) (loss16Of t x) ⌝ }
 {
     match t {
-        Coding16::Snorm => coded(low16(norm::pack_snorm16(x)), 0),
-        Coding16::Unorm => coded(low16(norm::pack_unorm16(x)), 0),
+        Coding16::Snorm => coded(snorm16(reading, x), 0),
+        Coding16::Unorm => coded(unorm16(reading, x), 0),
         Coding16::Float => coded_half(x),
     }
 }
@@ -108,6 +173,8 @@ fn lane8(t: Coding8, c: u8) -> u32
         Coding8::Unorm => norm::unpack_unorm8(c),
         Coding8::Signed => extend(c),
         Coding8::Unsigned => same(c),
+        Coding8::ClampedSigned => extend(c),
+        Coding8::ClampedUnsigned => same(c),
     }
 }
 
@@ -135,14 +202,14 @@ fn join16(a: u16, b: u16) -> u32
     a as u32 + 0x1_0000 * b as u32
 }
 
-pub fn word8(t: Coding8, x: [u32; 4]) -> u32
-    ensures { λ r. ⌜ r ≡ joined 8 (four (code8Of t) x) ⌝ }
+pub fn word8(reading: Reading, t: Coding8, x: [u32; 4]) -> u32
+    ensures { λ r. ⌜ r ≡ joined 8 (four (code8Of reading t) x) ⌝ }
 {
     join8(
-        code8(t, x[0]),
-        code8(t, x[1]),
-        code8(t, x[2]),
-        code8(t, x[3]),
+        code8(reading, t, x[0]),
+        code8(reading, t, x[1]),
+        code8(reading, t, x[2]),
+        code8(reading, t, x[3]),
     )
 }
 
@@ -159,11 +226,11 @@ pub struct PackedWord {
     pub loss: u8,
 }
 
-pub fn word16(t: Coding16, x: [u32; 4]) -> PackedWord
-    ensures { λ r. ⌜ (r .word ≡ joined 16 (take 2 (four (code16Of t) x))) × (r .loss ≡ largest (take 2 (four (loss16Of t) x))) ⌝ }
+pub fn word16(reading: Reading, t: Coding16, x: [u32; 4]) -> PackedWord
+    ensures { λ r. ⌜ (r .word ≡ joined 16 (take 2 (four (code16Of reading t) x))) × (r .loss ≡ largest (take 2 (four (loss16Of t) x))) ⌝ }
 {
-    let a = code16(t, x[0]);
-    let b = code16(t, x[1]);
+    let a = code16(reading, t, x[0]);
+    let b = code16(reading, t, x[1]);
     PackedWord {
         word: join16(a.code, b.code),
         loss: larger(a.loss, b.loss),
@@ -198,8 +265,18 @@ fn fill_from(x: u32, i: u32) -> u32
     extend(low8(x)) << (8 * i)
 }
 
-pub fn fill_word(x: [u32; 4]) -> u32
-    ensures { λ r. ⌜ r ≡ bitOr (bitOr (bitOr (fillingFrom (getD x 0 0) 0) (fillingFrom (getD x 1 0) 1)) (fillingFrom (getD x 2 0) 2)) (fillingFrom (getD x 3 0) 3) ⌝ }
+fn fill_word(x: [u32; 4]) -> u32
+    ensures { λ r. ⌜ r ≡ fillFour x ⌝ }
 {
     fill_from(x[0], 0) | fill_from(x[1], 1) | fill_from(x[2], 2) | fill_from(x[3], 3)
+}
+
+// In the text's reading the lanes are kept apart.
+pub fn clamped_word(reading: Reading, x: [u32; 4]) -> u32
+    ensures { λ r. ⌜ r ≡ clampFour reading x ⌝ }
+{
+    match reading {
+        Reading::Crate => fill_word(x),
+        Reading::Text => word8(reading, Coding8::ClampedSigned, x),
+    }
 }

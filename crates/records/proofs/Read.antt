@@ -8,6 +8,7 @@ use native.Mathlib.Omega.{arith}
 use borrow.Author.Tests.{eqb-true}
 use lib.Dec.{eqb}
 use lib.ListN.{replicate, getD}
+use Rattle.readings.specs.declared.Reading.{Reading}
 use Rattle.values.specs.declared.Value.{Value}
 use Rattle.values.specs.Value.{kindAt, emptyValue}
 use Rattle.values.proofs.Bools.{either}
@@ -15,7 +16,7 @@ use Rattle.buffers.specs.Memory.{put}
 use Rattle.buffers.proofs.Puts.{put-nil}
 use Rattle.words.specs.Words.{valueAt}
 use Rattle.calls.specs.Words.{callOf}
-use Rattle.builtins.specs.Fold.{refused, foldOf}
+use Rattle.builtins.specs.Fold.{refused, foldIn}
 use Rattle.builtins.specs.Words.{refusalIn, writtenIn}
 use Rattle.formed.proofs.AnswerWords.{answer-words, answer-loss, loss-most}
 use Rattle.records.proofs.Refused.{refused-so}
@@ -35,34 +36,34 @@ zeros-second = refl
 
 -- ---- the words of an answer in their place
 
-none-written : (w : List ℕ) → eqb (foldOf (callOf w) .refusal) 0 ≡ false → writtenIn 35 w ≡ []
+none-written : (R : Reading) (w : List ℕ) → eqb (foldIn R (callOf w) .refusal) 0 ≡ false → writtenIn R 35 w ≡ []
 unfolding refusalIn writtenIn
-none-written w t = rw (t, t)
+none-written R w t = rw (t, t)
 
-module _ (w : List ℕ) {o′ : List ℕ} (eo : o′ ≡ put blank 0 (writtenIn 35 w)) where
-  unwritten : eqb (foldOf (callOf w) .refusal) 0 ≡ false → o′ ≡ blank
-  unwritten t = eo ∙ ap (put blank 0) (none-written w t) ∙ put-nil blank 0
+module _ (R : Reading) (w : List ℕ) {o′ : List ℕ} (eo : o′ ≡ put blank 0 (writtenIn R 35 w)) where
+  unwritten : eqb (foldIn R (callOf w) .refusal) 0 ≡ false → o′ ≡ blank
+  unwritten t = eo ∙ ap (put blank 0) (none-written R w t) ∙ put-nil blank 0
 
   pub loss-few : getD o′ 34 0 ≤ 2
   loss-few =
-      elim (either (eqb (foldOf (callOf w) .refusal) 0)) [
-        | inl t ↦ let e = eqb-true _ 0 t in rw (answer-loss w blank (omega arith) eo e) (loss-most w blank (omega arith) eo e)
+      elim (either (eqb (foldIn R (callOf w) .refusal) 0)) [
+        | inl t ↦ let e = eqb-true _ 0 t in rw (answer-loss R w blank (omega arith) eo e) (loss-most R w blank (omega arith) eo e)
         | inr t ↦ rw (unwritten t) (omega arith)
       ]
 
-  module _ {r l : ℕ} {v u : Value} (er : r ≡ refusalIn 35 w) (ev : v ≡ valueAt o′ 0) (eu : u ≡ valueAt o′ 17) (el : l ≡ getD o′ 34 0) where
-    unread : eqb (foldOf (callOf w) .refusal) 0 ≡ false → record { refusal = r; first = v; second = u; loss = l } ≡ foldOf (callOf w)
+  module _ {r l : ℕ} {v u : Value} (er : r ≡ refusalIn R 35 w) (ev : v ≡ valueAt o′ 0) (eu : u ≡ valueAt o′ 17) (el : l ≡ getD o′ 34 0) where
+    unread : eqb (foldIn R (callOf w) .refusal) 0 ≡ false → record { refusal = r; first = v; second = u; loss = l } ≡ foldIn R (callOf w)
     unfolding refused
     unread t =
         let same = unwritten t in
-        rw (answer-words w blank (omega arith) eo er .0, ev ∙ ap (λ (m : List ℕ). valueAt m 0) same ∙ zeros-first, eu ∙ ap (λ (m : List ℕ). valueAt m 17) same ∙ zeros-second, el ∙ ap (λ (m : List ℕ). getD m 34 0) same)
-        (sym (refused-so w t))
+        rw (answer-words R w blank (omega arith) eo er .0, ev ∙ ap (λ (m : List ℕ). valueAt m 0) same ∙ zeros-first, eu ∙ ap (λ (m : List ℕ). valueAt m 17) same ∙ zeros-second, el ∙ ap (λ (m : List ℕ). getD m 34 0) same)
+        (sym (refused-so R w t))
 
-    read : foldOf (callOf w) .refusal ≡ 0 → record { refusal = r; first = v; second = u; loss = l } ≡ foldOf (callOf w)
+    read : foldIn R (callOf w) .refusal ≡ 0 → record { refusal = r; first = v; second = u; loss = l } ≡ foldIn R (callOf w)
     read e =
-        let told = answer-words w blank (omega arith) eo er in
+        let told = answer-words R w blank (omega arith) eo er in
         let values = told .1 (told .0 ∙ e) in
-        rw (told .0, ev ∙ values .0, eu ∙ values .1, el ∙ answer-loss w blank (omega arith) eo e)
+        rw (told .0, ev ∙ values .0, eu ∙ values .1, el ∙ answer-loss R w blank (omega arith) eo e)
 
-    pub answer-read : record { refusal = r; first = v; second = u; loss = l } ≡ foldOf (callOf w)
-    answer-read = ⊎-elim (λ t. read (eqb-true _ 0 t)) unread (either (eqb (foldOf (callOf w) .refusal) 0))
+    pub answer-read : record { refusal = r; first = v; second = u; loss = l } ≡ foldIn R (callOf w)
+    answer-read = ⊎-elim (λ t. read (eqb-true _ 0 t)) unread (either (eqb (foldIn R (callOf w) .refusal) 0))

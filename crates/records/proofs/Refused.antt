@@ -7,6 +7,7 @@ use mathlib.Core.Path.{_≡_, refl, sym, _∙_}
 use native.Mathlib.Omega.{arith}
 use lib.Dec.{eqb}
 use lib.ListN.{getD}
+use Rattle.readings.specs.declared.Reading.{Reading}
 use Rattle.values.specs.declared.Kind.{Kind}
 use Rattle.values.specs.declared.Value.{Value}
 use Rattle.values.specs.Value.{kindAt}
@@ -17,26 +18,26 @@ use Rattle.calls.specs.Table.{Row, takes, builtinAt}
 use Rattle.calls.specs.Refuse.{inTable, judged, refusalOf}
 use Rattle.calls.specs.Words.{callOf}
 use Rattle.calls.proofs.Shaped.{each}
-use Rattle.builtins.specs.Fold.{refused, answered, answeredTwice, answeredLosing, answerBy, foldBy, foldOf}
+use Rattle.builtins.specs.Fold.{refused, answered, answeredTwice, answeredLosing, answerBy, foldBy, foldIn}
 
 in-table : (row : Row) (n : ℕ) (t : Kind) (a b c : Value) → judged row n t a b c ≡ 0 → inTable row ≡ true
 unfolding judged
 in-table row n t a b c e = ⊎-elim (λ known. known) (λ unknown. absurd (omega (arith, rw unknown at e))) (either (inTable row))
 
-module _ (t : Kind) (a b c : Value) where
+module _ (R : Reading) (t : Kind) (a b c : Value) where
   abbrev answers : ℕ → Builtin → Bool
-  answers i which = cond (inTable (takes which)) (eqb (answerBy which t a b c .refusal) 0) true
+  answers i which = cond (inTable (takes which)) (eqb (answerBy R which t a b c .refusal) 0) true
 
-  no-refusal : (i : ℕ) → inTable (takes (builtinAt i)) ≡ true → eqb (answerBy (builtinAt i) t a b c .refusal) 0 ≡ true
+  no-refusal : (i : ℕ) → inTable (takes (builtinAt i)) ≡ true → eqb (answerBy R (builtinAt i) t a b c .refusal) 0 ≡ true
   unfolding answered answeredTwice answeredLosing
   no-refusal i h = rw h at (each answers (λ n. refl) refl i)
 
-pub refused-so : (w : List ℕ) → eqb (foldOf (callOf w) .refusal) 0 ≡ false → foldOf (callOf w) ≡ refused (foldOf (callOf w) .refusal)
-unfolding foldOf callOf refused
-refused-so w = by (refusalOf (callOf w)) refl
+pub refused-so : (R : Reading) (w : List ℕ) → eqb (foldIn R (callOf w) .refusal) 0 ≡ false → foldIn R (callOf w) ≡ refused (foldIn R (callOf w) .refusal)
+unfolding foldIn callOf refused
+refused-so R w = by (refusalOf (callOf w)) refl
   where
-    by : (n : ℕ) → refusalOf (callOf w) ≡ n → eqb (foldBy n (callOf w) .refusal) 0 ≡ false → foldBy n (callOf w) ≡ refused (foldBy n (callOf w) .refusal)
+    by : (n : ℕ) → refusalOf (callOf w) ≡ n → eqb (foldBy R n (callOf w) .refusal) 0 ≡ false → foldBy R n (callOf w) ≡ refused (foldBy R n (callOf w) .refusal)
     by zero e t =
         let k = in-table (takes (builtinAt (getD w 0 0))) (getD w 1 0) (kindAt (getD w 2 0)) (valueAt w 3) (valueAt w 20) (valueAt w 37) e in
-        absurd (false≢true (sym t ∙ no-refusal (kindAt (getD w 2 0)) (valueAt w 3) (valueAt w 20) (valueAt w 37) (getD w 0 0) k))
+        absurd (false≢true (sym t ∙ no-refusal R (kindAt (getD w 2 0)) (valueAt w 3) (valueAt w 20) (valueAt w 37) (getD w 0 0) k))
     by (suc n) e t = refl

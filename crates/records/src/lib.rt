@@ -1,11 +1,12 @@
 // 01's records as a view of the fold of words: a call by value, and its answer by value.
 use builtins::Answer;
 use calls::Call;
+use readings::Reading;
 ghost use mathlib.Core.Path.{_≡_};
 ghost use Prim.Native.Nat.{_<_, _≤_};
 ghost use lib.ListN.{length, replicate, getD};
 ghost use Rattle.calls.specs.Words.{callOf};
-ghost use Rattle.builtins.specs.Fold.{foldOf};
+ghost use Rattle.builtins.specs.Fold.{foldIn, foldOf};
 
 // The words of a call.
 fn put_call(w: &mut [u64], call: Call)
@@ -37,12 +38,12 @@ fn loss_in(out: &[u64]) -> u8
 }
 
 // A refused call leaves the words of its answer as they are: two empty values and no loss.
-fn fold_in(w: &mut [u64], out: &mut [u64], call: Call) -> Answer
+fn fold_words(reading: Reading, w: &mut [u64], out: &mut [u64], call: Call) -> Answer
     requires { ⌜ (length (now w) ≡ 54) × (now out ≡ replicate 35 0) ⌝ }
-    ensures { λ r. ⌜ r ≡ foldOf call ⌝ }
+    ensures { λ r. ⌜ r ≡ foldIn reading call ⌝ }
 {
     put_call(w, call);
-    let refusal = builtins::fold(w, out);
+    let refusal = builtins::fold_in(reading, w, out);
     Answer {
         refusal: refusal,
         first: words::value_at(out, 0),
@@ -51,11 +52,18 @@ fn fold_in(w: &mut [u64], out: &mut [u64], call: Call) -> Answer
     }
 }
 
-// What a call gives.
-pub fn fold(call: Call) -> Answer
-    ensures { λ r. ⌜ r ≡ foldOf call ⌝ }
+// What a call gives in the reading that the caller chooses.
+pub fn fold_in(reading: Reading, call: Call) -> Answer
+    ensures { λ r. ⌜ r ≡ foldIn reading call ⌝ }
 {
     let mut w = [0; 54];
     let mut out = [0; 35];
-    fold_in(&mut w, &mut out, call)
+    fold_words(reading, &mut w, &mut out, call)
+}
+
+// In the crate's.
+pub fn fold(call: Call) -> Answer
+    ensures { λ r. ⌜ r ≡ foldOf call ⌝ }
+{
+    fold_in(Reading::Crate, call)
 }

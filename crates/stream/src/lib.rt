@@ -1,5 +1,6 @@
-// Lines of a buffer, answered one after another, and what of the buffer is kept for later.
+// Lines of a buffer, answered one after another in the reading that the caller chooses, and what of the buffer is kept for later.
 use answers::LineAnswer;
+use readings::Reading;
 ghost use mathlib.Core.Path.{_≡_};
 ghost use mathlib.Core.List.{[]};
 ghost use mathlib.Core.Bool.{cond};
@@ -41,42 +42,46 @@ pub struct Held {
 }
 
 // A line's answer at a place, where there is room for any.
-fn line_at(line: &[u8], out: &mut [u8], at: usize) -> LineAnswer
+fn line_at(reading: Reading, line: &[u8], out: &mut [u8], at: usize) -> LineAnswer
     requires { ⌜ at ≤ length (now out) ⌝ }
-    ensures { λ r. ⌜ (r ≡ lineAnswer (length (now (out .entry)) - at) (now (line .entry)))
-        × (now (out .exit) ≡ put (now (out .entry)) at (writtenIn (length (now (out .entry)) - at) (now (line .entry)))) ⌝ }
+    ensures { λ r. ⌜ (r ≡ lineAnswer reading (length (now (out .entry)) - at) (now (line .entry)))
+        × (now (out .exit) ≡ put (now (out .entry)) at (writtenIn reading (length (now (out .entry)) - at) (now (line .entry)))) ⌝ }
 {
-    lines::fold_line(line, &mut out[at..])
+    lines::fold_line_in(reading, line, &mut out[at..])
 }
 
 // A line's answer and its newline at a place; answers the next place.
-fn put_line(line: &[u8], out: &mut [u8], at: usize) -> usize
+fn put_line(reading: Reading, line: &[u8], out: &mut [u8], at: usize) -> usize
     requires { ⌜ at + lineRoom ≤ length (now out) ⌝ }
-    ensures { λ r. ⌜ (r ≡ at + length (answerLine (now (line .entry)))) × (now (out .exit) ≡ put (now (out .entry)) at (answerLine (now (line .entry)))) ⌝ }
+    ensures { λ r. ⌜ (r ≡ at + length (answerLine reading (now (line .entry)))) × (now (out .exit) ≡ put (now (out .entry)) at (answerLine reading (now (line .entry)))) ⌝ }
 {
-    let a = line_at(line, out, at);
+    let a = line_at(reading, line, out, at);
     let e = printing::put_refused(out, at + a.len, a.refusal, a.place);
     printing::put_byte(out, e, 10)
 }
 
 // A line's answer and its newline at a place where they are `due`, and nothing where not; answers the next place.
-fn put_due(due: bool, line: &[u8], out: &mut [u8], at: usize) -> usize
+fn put_due(reading: Reading, due: bool, line: &[u8], out: &mut [u8], at: usize) -> usize
     requires { ⌜ at + lineRoom ≤ length (now out) ⌝ }
-    ensures { λ r. ⌜ (r ≡ at + length (cond due (answerLine (now (line .entry))) []))
-        × (now (out .exit) ≡ put (now (out .entry)) at (cond due (answerLine (now (line .entry))) [])) ⌝ }
+    ensures { λ r. ⌜ (r ≡ at + length (cond due (answerLine reading (now (line .entry))) []))
+        × (now (out .exit) ≡ put (now (out .entry)) at (cond due (answerLine reading (now (line .entry))) [])) ⌝ }
 {
-    if due { put_line(line, out, at) } else { at }
+    if due {
+        put_line(reading, line, out, at)
+    } else {
+        at
+    }
 }
 
 // The first line of s, where it is to be answered now.
-fn fold_piece(s: &[u8], skip: bool, last: bool, out: &mut [u8], at: usize) -> Part
+fn fold_piece(reading: Reading, s: &[u8], skip: bool, last: bool, out: &mut [u8], at: usize) -> Part
     requires { ⌜ at + lineRoom ≤ length (now out) ⌝ }
-    ensures { λ r. ⌜ (r ≡ pieceOf at skip last (now (s .entry)))
-        × (now (out .exit) ≡ put (now (out .entry)) at (pieceText skip last (now (s .entry)))) ⌝ }
+    ensures { λ r. ⌜ (r ≡ pieceOf reading at skip last (now (s .entry)))
+        × (now (out .exit) ≡ put (now (out .entry)) at (pieceText reading skip last (now (s .entry)))) ⌝ }
 {
     let p = cutting::first_line(s, skip, last);
     let end = p.end;
-    let used = put_due(p.due, &s[0..end], out, at);
+    let used = put_due(reading, p.due, &s[0..end], out, at);
     Part {
         size: p.size,
         used: used,
@@ -86,9 +91,9 @@ fn fold_piece(s: &[u8], skip: bool, last: bool, out: &mut [u8], at: usize) -> Pa
 
 // The lines of s, as many as have room for the longest answer each. `skip`: s starts amid a line that is answered already.
 // `last`: no byte comes after s.
-fn fold_part(s: &[u8], skip: bool, last: bool, out: &mut [u8]) -> Part
-    ensures { λ r. ⌜ (r ≡ partOf (linesIn (now (out .entry))) skip last (now (s .entry)))
-        × (now (out .exit) ≡ put (now (out .entry)) 0 (partText (linesIn (now (out .entry))) skip last (now (s .entry))))
+fn fold_part(reading: Reading, s: &[u8], skip: bool, last: bool, out: &mut [u8]) -> Part
+    ensures { λ r. ⌜ (r ≡ partOf reading (linesIn (now (out .entry))) skip last (now (s .entry)))
+        × (now (out .exit) ≡ put (now (out .entry)) 0 (partText reading (linesIn (now (out .entry))) skip last (now (s .entry))))
         × (r .size ≤ length (now (s .entry))) × (r .used ≤ length (now (out .entry))) ⌝ }
 {
     let mut at = 0;
@@ -96,7 +101,7 @@ fn fold_part(s: &[u8], skip: bool, last: bool, out: &mut [u8]) -> Part
     let mut amid = skip;
     let mut left = out.len() / LINE_ROOM;
     while left > 0 {
-        let p = fold_piece(&s[at..], amid, last, out, used);
+        let p = fold_piece(reading, &s[at..], amid, last, out, used);
         at += p.size;
         used = p.used;
         amid = p.skip;
@@ -110,14 +115,22 @@ fn fold_part(s: &[u8], skip: bool, last: bool, out: &mut [u8]) -> Part
 }
 
 // The lines of what the buffer holds.
-fn fold_held(buf: &[u8], at: usize, have: usize, skip: bool, last: bool, out: &mut [u8]) -> Part
-    ensures { λ r. ⌜ (r ≡ partOf (linesIn (now (out .entry))) skip last (heldOf (now (buf .entry)) at have))
-        × (now (out .exit) ≡ put (now (out .entry)) 0 (partText (linesIn (now (out .entry))) skip last (heldOf (now (buf .entry)) at have)))
+fn fold_held(
+    reading: Reading,
+    buf: &[u8],
+    at: usize,
+    have: usize,
+    skip: bool,
+    last: bool,
+    out: &mut [u8],
+) -> Part
+    ensures { λ r. ⌜ (r ≡ partOf reading (linesIn (now (out .entry))) skip last (heldOf (now (buf .entry)) at have))
+        × (now (out .exit) ≡ put (now (out .entry)) 0 (partText reading (linesIn (now (out .entry))) skip last (heldOf (now (buf .entry)) at have)))
         × (r .size ≤ length (heldOf (now (buf .entry)) at have)) × (r .used ≤ length (now (out .entry))) ⌝ }
 {
     let end = cutting::least(have, buf.len());
     let start = cutting::least(at, end);
-    fold_part(&buf[start..end], skip, last, out)
+    fold_part(reading, &buf[start..end], skip, last, out)
 }
 
 // Before anything is read.
@@ -137,14 +150,14 @@ pub fn start() -> Held
 
 // Answers lines of what is held. Where there is none to answer, what is held goes to the start of the buffer, so that there is room
 // to read more.
-pub fn step(buf: &mut Space, out: &mut Space, h: Held) -> Held
-    ensures { λ r. ⌜ (r ≡ stepOf stepLines (now (buf .entry)) h) × (now (buf .exit) ≡ bufferOf stepLines (now (buf .entry)) h)
-        × (now (out .exit) ≡ put (now (out .entry)) 0 (textOf stepLines (now (buf .entry)) h))
+pub fn step(reading: Reading, buf: &mut Space, out: &mut Space, h: Held) -> Held
+    ensures { λ r. ⌜ (r ≡ stepOf reading stepLines (now (buf .entry)) h) × (now (buf .exit) ≡ bufferOf reading stepLines (now (buf .entry)) h)
+        × (now (out .exit) ≡ put (now (out .entry)) 0 (textOf reading stepLines (now (buf .entry)) h))
         × (r .at ≤ r .have) × (r .have ≤ space) × (r .used ≤ space) ⌝ }
 {
     let at = h.at;
     let have = h.have;
-    let p = fold_held(buf, at, have, h.skip, h.last, out);
+    let p = fold_held(reading, buf, at, have, h.skip, h.last, out);
     if p.size == 0 {
         let n = cutting::carry(buf, at, have);
         return Held {

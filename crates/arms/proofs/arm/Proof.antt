@@ -37,7 +37,7 @@ arm-spec =
     (λ c. rw (c .before .before .enum-told17 .given .1, ← c .before .types-of17 .ensures) (c .frexp .ensures)) (λ c. rw (c .before .before .enum-told18 .given .1, ← c .before .types-of18 .ensures) (c .ldexp .ensures))
     (λ c. rw (c .before .before .enum-told19 .given .1, ← c .before .types-of19 .ensures) (c .bitcast .ensures))
     (λ c. rw (c .before .before .enum-told20 .given .1, ← c .before .types-of20 .ensures) (c .pack8 .ensures)) (λ c. rw (c .before .before .enum-told21 .given .1, ← c .before .types-of21 .ensures) (c .pack82 .ensures)) (λ c. rw (c .before .before .enum-told22 .given .1, ← c .before .types-of22 .ensures) (c .pack83 .ensures))
-    (λ c. rw (c .before .before .enum-told23 .given .1, ← c .before .types-of23 .ensures) (c .pack-filling .ensures))
+    (λ c. rw (c .before .before .enum-told23 .given .1, ← c .before .types-of23 .ensures) (c .pack-clamped .ensures))
     (λ c. rw (c .before .before .enum-told24 .given .1, ← c .before .types-of24 .ensures) (c .pack84 .ensures)) (λ c. rw (c .before .before .enum-told25 .given .1, ← c .before .types-of25 .ensures) (c .pack85 .ensures))
     (λ c. rw (c .before .before .enum-told26 .given .1, ← c .before .types-of26 .ensures) (c .pack16 .ensures)) (λ c. rw (c .before .before .enum-told27 .given .1, ← c .before .types-of27 .ensures) (c .pack162 .ensures)) (λ c. rw (c .before .before .enum-told28 .given .1, ← c .before .types-of28 .ensures) (c .pack163 .ensures))
     (λ c. rw (c .before .before .enum-told29 .given .1, ← c .before .types-of29 .ensures) (c .unpack8 .ensures)) (λ c. rw (c .before .before .enum-told30 .given .1, ← c .before .types-of30 .ensures) (c .unpack82 .ensures))

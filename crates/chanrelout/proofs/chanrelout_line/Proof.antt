@@ -3,6 +3,7 @@ use mathlib.Core.Path.{ap, _∙_}
 use native.Mathlib.Omega.{arith}
 use lib.ListN.{length}
 use borrow.Author.Needs.{needs}
+use Rattle.readings.specs.declared.Reading.the-variants as In
 use Rattle.answers.specs.declared.LineAnswer.{LineAnswer}
 use Rattle.answers.proofs.Written.{spelled-most}
 use Rattle.lines.specs.Line.{lineOf, writtenIn, lineAnswer}
@@ -19,7 +20,7 @@ unfolding lineAnswer writtenIn
 line-number-requires c κs =
     let a = c .before .before .before .before .before .before .args in
     let e = c .before .before .fold-line .ensures .0 in
-    omega (arith, spelled-most (length (a .out .now)) (lineOf (a .line .now)), place-most (a .line .now), ap (λ (x : LineAnswer). x .len) e, ap (λ (x : LineAnswer). x .place) e)
+    omega (arith, spelled-most (length (a .out .now)) (lineOf In.Crate (a .line .now)), place-most In.Crate (a .line .now), ap (λ (x : LineAnswer). x .len) e, ap (λ (x : LineAnswer). x .place) e)
 
 same-length : tie.Need-same-length
 same-length c = search needs

@@ -37,8 +37,8 @@ returns c =
     let n = linesIn (a .out .now) in
     let m = held-part (a .buf .now) (a .at) (a .have) (c .before .before .before .before .before .before .least .ensures) (c .before .before .before .before .before .least2 .ensures) in
     let e = c .before .before .fold-part .ensures in (
-      e .0 ∙ ap (partOf n (a .skip) (a .last)) m,
-      e .1 ∙ ap (λ (l : List ℕ). put (a .out .now) 0 (partText n (a .skip) (a .last) l)) m,
+      e .0 ∙ ap (partOf (a .reading) n (a .skip) (a .last)) m,
+      e .1 ∙ ap (λ (l : List ℕ). put (a .out .now) 0 (partText (a .reading) n (a .skip) (a .last) l)) m,
       omega (arith, e .2, ap length m),
       e .3,
     )

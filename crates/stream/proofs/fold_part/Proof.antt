@@ -14,13 +14,13 @@ use Rattle.stream.proofs.fold_part.Statement.{statement}
 use Rattle.stream.proofs.fold_part.Tie as tie
 
 abbrev Inv-loop : tie.InvT-loop
-Inv-loop s skip last out₀ at₀ used₀ amid₀ left₀ out at used amid left =
+Inv-loop reading s skip last out₀ at₀ used₀ amid₀ left₀ out at used amid left =
     (at ≤ length s) × (used + left * lineRoom ≤ length out₀) × (length out ≡ length out₀)
-    × (put out₀ 0 (partText (linesIn out₀) skip last s) ≡ put out used (partText left amid last (drop at s)))
-    × (partOf (linesIn out₀) skip last s ≡ from at used left amid last (drop at s))
+    × (put out₀ 0 (partText reading (linesIn out₀) skip last s) ≡ put out used (partText reading left amid last (drop at s)))
+    × (partOf reading (linesIn out₀) skip last s ≡ from reading at used left amid last (drop at s))
 
 abbrev μ-loop : tie.MeasureT-loop
-μ-loop s skip last out₀ at₀ used₀ amid₀ left₀ out at used amid left = left
+μ-loop reading s skip last out₀ at₀ used₀ amid₀ left₀ out at used amid left = left
 
 loop-holds : tie.Need-loop-holds Inv-loop μ-loop
 unfolding partOf
@@ -45,9 +45,9 @@ add-at c =
     let a = c .before .before .before .before .before .before .before .before .before .before .args in
     let l = c .before .before .before .before .before .before .before .loop in
     let p = c .before .before .before .fold-piece in
-    let e = p .ensures .0 ∙ ap (pieceOf (l .used) (l .amid) (a .last)) (rest-all (a .s .now) (l .at)) in
+    let e = p .ensures .0 ∙ ap (pieceOf (a .reading) (l .used) (l .amid) (a .last)) (rest-all (a .s .now) (l .at)) in
     let pos : 0 < l .left = c .before .before .before .before .before .before .loop-test .taken in
-    omega (arith, size-in (a .s .now) (l .at) (l .used) (l .left) (l .amid) (a .last) pos e (l .inv .0), c .before .before .before .before .before .before .before .before .before .before .good)
+    omega (arith, size-in (a .reading) (a .s .now) (l .at) (l .used) (l .left) (l .amid) (a .last) pos e (l .inv .0), c .before .before .before .before .before .before .before .before .before .before .good)
 
 lines-left-requires : tie.Need-lines-left-requires Inv-loop μ-loop
 lines-left-requires c κs = search needs
@@ -60,15 +60,15 @@ loop-again c =
     let a = c .before .before .before .before .before .before .before .before .before .before .before .args in
     let l = c .before .before .before .before .before .before .before .before .loop in
     let p = c .before .before .before .before .fold-piece in
-    let e = p .ensures .0 ∙ ap (pieceOf (l .used) (l .amid) (a .last)) (rest-all (a .s .now) (l .at)) in
+    let e = p .ensures .0 ∙ ap (pieceOf (a .reading) (l .used) (l .amid) (a .last)) (rest-all (a .s .now) (l .at)) in
     let pos : 0 < l .left = c .before .before .before .before .before .before .before .loop-test .taken in
-    let f = p .ensures .1 ∙ ap (λ (t : List ℕ). put (l .out) (l .used) (pieceText (l .amid) (a .last) t)) (rest-all (a .s .now) (l .at)) in
+    let f = p .ensures .1 ∙ ap (λ (t : List ℕ). put (l .out) (l .used) (pieceText (a .reading) (l .amid) (a .last) t)) (rest-all (a .s .now) (l .at)) in
     let n = c .lines-left .ensures in (
-      size-in (a .s .now) (l .at) (l .used) (l .left) (l .amid) (a .last) pos e (l .inv .0),
-      omega (arith, used-in (a .s .now) (l .at) (l .used) (l .left) (l .amid) (a .last) pos e, n .0, l .inv .1),
+      size-in (a .reading) (a .s .now) (l .at) (l .used) (l .left) (l .amid) (a .last) pos e (l .inv .0),
+      omega (arith, used-in (a .reading) (a .s .now) (l .at) (l .used) (l .left) (l .amid) (a .last) pos e, n .0, l .inv .1),
       search needs,
-      rw (n .1) (l .inv .3 ∙ put-turn (a .s .now) (l .at) (l .used) (l .left) (l .amid) (a .last) pos e (l .out) (omega (arith, pos, l .inv .1, l .inv .2)) f),
-      rw (n .1) (l .inv .4 ∙ from-turn (a .s .now) (l .at) (l .used) (l .left) (l .amid) (a .last) pos e),
+      rw (n .1) (l .inv .3 ∙ put-turn (a .reading) (a .s .now) (l .at) (l .used) (l .left) (l .amid) (a .last) pos e (l .out) (omega (arith, pos, l .inv .1, l .inv .2)) f),
+      rw (n .1) (l .inv .4 ∙ from-turn (a .reading) (a .s .now) (l .at) (l .used) (l .left) (l .amid) (a .last) pos e),
     )
 
 same-length : tie.Need-same-length Inv-loop μ-loop

@@ -30,9 +30,9 @@ returns : tie.Need-returns
 returns c =
     let a = c .before .before .before .before .before .before .before .before .args in
     let e = c .before .before .before .before .before .first-line .ensures .0 in
-    let t = first-text (a .skip) (a .last) (a .s .now) e in
+    let t = first-text (a .reading) (a .skip) (a .last) (a .s .now) e in
     let p = c .before .before .put-due .ensures in (
-      first-piece (a .skip) (a .last) (a .s .now) e (a .at) (p .0 ∙ ap (λ (l : List ℕ). a .at + length l) t),
+      first-piece (a .reading) (a .skip) (a .last) (a .s .now) e (a .at) (p .0 ∙ ap (λ (l : List ℕ). a .at + length l) t),
       p .1 ∙ ap (put (a .out .now) (a .at)) t,
     )
 

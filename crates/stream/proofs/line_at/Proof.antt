@@ -8,17 +8,17 @@ use Rattle.stream.proofs.Puts.{rest-all, put-rest}
 use Rattle.stream.proofs.line_at.Statement.{statement}
 use Rattle.stream.proofs.line_at.Tie as tie
 
-sub-fold-line : tie.Need-sub-fold-line
-sub-fold-line c = search needs
+sub-fold-line-in : tie.Need-sub-fold-line-in
+sub-fold-line-in c = search needs
 
-part-fold-line-start : tie.Need-part-fold-line-start
-part-fold-line-start c = search needs
+part-fold-line-in-start : tie.Need-part-fold-line-in-start
+part-fold-line-in-start c = search needs
 
-part-fold-line-end : tie.Need-part-fold-line-end
-part-fold-line-end c = search needs
+part-fold-line-in-end : tie.Need-part-fold-line-in-end
+part-fold-line-in-end c = search needs
 
-fold-line-requires : tie.Need-fold-line-requires
-fold-line-requires c κs = search needs
+fold-line-in-requires : tie.Need-fold-line-in-requires
+fold-line-in-requires c κs = search needs
 
 same-length : tie.Need-same-length
 same-length c = search needs
@@ -28,18 +28,18 @@ returns c =
     let a = c .before .before .before .before .before .before .args in
     let o = a .out .now in
     let m : length (take (length o - a .at) (drop (a .at) o)) ≡ length o - a .at = ap length (rest-all o (a .at)) ∙ length-drop (a .at) o in
-    let e = c .before .before .fold-line .ensures in (
-      e .0 ∙ ap (λ (k : ℕ). lineAnswer k (a .line .now)) m,
-      put-rest o (a .at) (writtenIn (length o - a .at) (a .line .now)) (e .1 ∙ ap (λ (k : ℕ). put (take (length o - a .at) (drop (a .at) o)) 0 (writtenIn k (a .line .now))) m),
+    let e = c .before .before .fold-line-in .ensures in (
+      e .0 ∙ ap (λ (k : ℕ). lineAnswer (a .reading) k (a .line .now)) m,
+      put-rest o (a .at) (writtenIn (a .reading) (length o - a .at) (a .line .now)) (e .1 ∙ ap (λ (k : ℕ). put (take (length o - a .at) (drop (a .at) o)) 0 (writtenIn (a .reading) k (a .line .now))) m),
     )
 
 pub line-at-spec : {M : Type 1} → statement M
 line-at-spec =
     tie.close
     (tie.spec
-    sub-fold-line
-    part-fold-line-start
-    part-fold-line-end
-    fold-line-requires
+    sub-fold-line-in
+    part-fold-line-in-start
+    part-fold-line-in-end
+    fold-line-in-requires
     same-length
     returns)

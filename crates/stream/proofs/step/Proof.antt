@@ -36,8 +36,8 @@ returns c =
     let p = rw (lines-in s) at (c .before .before .before .before .before .fold-held .ensures) in
     let k = c .before .carry .ensures in
     let z = c .before .before .before .if1 .taken in (
-      step-idle stepLines (a .buf .now) (a .h) (p .0) z (k .0),
-      k .1 ∙ buffer-idle stepLines (a .buf .now) (a .h) (p .0) z,
+      step-idle (a .reading) stepLines (a .buf .now) (a .h) (p .0) z (k .0),
+      k .1 ∙ buffer-idle (a .reading) stepLines (a .buf .now) (a .h) (p .0) z,
       p .1,
       search needs,
       omega (arith, k .2, held-in s),
@@ -47,8 +47,8 @@ returns c =
 least-requires : tie.Need-least-requires
 least-requires c κs = search needs
 
-add-t17 : tie.Need-add-t17
-add-t17 c =
+add-t18 : tie.Need-add-t18
+add-t18 c =
     let s = c .before .before .before .before .before in
     let a = s .before .before .before .args in
     omega (arith, c .before .before .before .before .fold-held .ensures .2, c .before .before .if1 .left, length-held (a .buf .now) (a .h .at) (a .h .have), min-le-right (a .h .have) (length (a .buf .now)), held-in s)
@@ -63,8 +63,8 @@ returns-2 c =
     let z = c .before .before .if1 .left in
     let l = length-held (a .buf .now) (a .h .at) (a .h .have) in
     let r = min-le-right (a .h .have) (length (a .buf .now)) in (
-      step-busy stepLines (a .buf .now) (a .h) (p .0) z m,
-      buffer-busy stepLines (a .buf .now) (a .h) (p .0) z,
+      step-busy (a .reading) stepLines (a .buf .now) (a .h) (p .0) z m,
+      buffer-busy (a .reading) stepLines (a .buf .now) (a .h) (p .0) z,
       p .1,
       omega (arith, l, m, z, p .2),
       omega (arith, m, r, held-in s),
@@ -73,4 +73,4 @@ returns-2 c =
 
 pub step-spec : {M : Type 1} → statement M
 step-spec =
-    tie.close (tie.spec fold-held-requires carry-requires returns least-requires add-t17 returns-2)
+    tie.close (tie.spec fold-held-requires carry-requires returns least-requires add-t18 returns-2)

@@ -9,7 +9,7 @@ use Rattle.calls.specs.Refuse.{refusalOf}
 use Rattle.calls.specs.Words.{callOf}
 use Rattle.calls.specs.Program.{FirstMatrix}
 use Rattle.calls.proofs.Converse.{unformed}
-use Rattle.builtins.specs.Fold.{foldOf}
+use Rattle.builtins.specs.Fold.{foldIn}
 use Rattle.builtins.proofs.Folded.{told-refused, told-short, told-one, told-answer}
 use Rattle.builtins.proofs.Matrices.{OneValue, one-value}
 use borrow.Author.Needs.{needs}
@@ -36,8 +36,8 @@ first c =
       within = s .pre .2;
     }
 
-one : (c : tie.Else1) → OneValue (foldOf (callOf (c .before .before .before .before .args .w .now)))
-one c = let s = c .before .before .before .before in one-value (s .args .w .now) (s .args .p) (first c) (unrefused c)
+one : (c : tie.Else1) → OneValue (foldIn (c .before .before .before .before .args .reading) (callOf (c .before .before .before .before .args .w .now)))
+one c = let s = c .before .before .before .before in one-value (s .args .reading) (s .args .w .now) (s .args .p) (first c) (unrefused c)
 
 refusal-requires : tie.Need-refusal-requires
 refusal-requires c κs = search needs
@@ -46,11 +46,11 @@ returns : tie.Need-returns
 returns c =
     let a = c .before .before .before .before .args in
     let e = c .before .refusal .ensures in
-    let t = told-refused (a .out .now) (a .w .now) (λ z. c .if1 .taken (e ∙ z)) in
+    let t = told-refused (a .reading) (a .out .now) (a .w .now) (λ z. c .if1 .taken (e ∙ z)) in
     (e ∙ t .0, t .1)
 
 returns-2 : tie.Need-returns-2
-returns-2 c = let a = c .before .before .before .before .before .args in told-answer (a .out .now) (a .w .now) refl (one (c .before) .refusal) (told-short (foldOf (callOf (a .w .now))) (a .out .now) (c .if2 .taken))
+returns-2 c = let a = c .before .before .before .before .before .args in told-answer (a .reading) (a .out .now) (a .w .now) refl (one (c .before) .refusal) (told-short (foldIn (a .reading) (callOf (a .w .now))) (a .out .now) (c .if2 .taken))
 
 put-first-requires : tie.Need-put-first-requires
 put-first-requires c κs = (first (c .before .before), search needs, unrefused (c .before .before))
@@ -68,8 +68,8 @@ returns-3 : tie.Need-returns-3
 returns-3 c =
     let a = c .before .before .before .before .before .before .before .before .before .before .before .before .before .before .before .before .before .args in
     let o = one (c .before .before .before .before .before .before .before .before .before .before .before .before .before) in
-    told-answer (a .out .now) (a .w .now) refl (o .refusal)
-    (told-one (foldOf (callOf (a .w .now))) (a .out .now) (c .before .before .before .before .before .before .before .before .before .before .before .before .if2 .left) (o .sixteen) (o .second) (o .loss) (c .before .before .before .before .before .before .before .before .before .before .put-first .ensures) (c .before .before .before .before .before .before .clear .ensures) (c .before .before .put-loss .ensures))
+    told-answer (a .reading) (a .out .now) (a .w .now) refl (o .refusal)
+    (told-one (foldIn (a .reading) (callOf (a .w .now))) (a .out .now) (c .before .before .before .before .before .before .before .before .before .before .before .before .if2 .left) (o .sixteen) (o .second) (o .loss) (c .before .before .before .before .before .before .before .before .before .before .put-first .ensures) (c .before .before .before .before .before .before .clear .ensures) (c .before .before .put-loss .ensures))
 
 pub fold-spec : {M : Type 1} → statement M
 fold-spec =

@@ -1,0 +1,4 @@
+pub mod Floor
+pub mod Magnitudes
+pub mod Codes
+pub mod Trip
