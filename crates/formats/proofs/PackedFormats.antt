@@ -107,7 +107,7 @@ module _ (r : Reading) (f : Format) where
 
   -- ---- what the calls give
 
-  packs : T (trips r f) → (v : Value) → wellFormed v ≡ true → v .kind ≡ lanesKind f → packing r f v ≡ word (joined w (codes (lanesOf v)))
+  pub packs : T (trips r f) → (v : Value) → wellFormed v ≡ true → v .kind ≡ lanesKind f → packing r f v ≡ word (joined (coding r f .width) (map (coding r f .code) (lanesOf v)))
   unfolding packed
   packs t v h e = ap (λ (a : Answer). a .first) (answers r (packer f) (Only (lanesKind f)) v (packer-row f) h (rw e (itself (lanesKind f)))) ∙ packer-answer r v f t
 

@@ -1,0 +1,7 @@
+pub mod Numbers
+pub mod Ranges
+pub mod Text
+pub mod Steps
+pub mod Crate
+pub mod Calls
+pub mod Laws
