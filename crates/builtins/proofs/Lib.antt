@@ -9,6 +9,7 @@ pub mod AgreeOthers
 pub mod Agree
 pub mod Outcomes
 pub mod Folded
+pub mod Answers
 pub mod Called
 pub mod AgreeWords
 pub mod Matrices

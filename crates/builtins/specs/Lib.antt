@@ -6,3 +6,4 @@ pub mod Pack
 pub mod Fold
 pub mod Words
 pub mod Program
+pub mod Calls

@@ -12,35 +12,24 @@ use lib.ListN.{length, length-map, length-take}
 use Rattle.readings.specs.declared.Reading.{Reading}
 use Rattle.readings.specs.declared.Reading.the-variants as In
 use Rattle.values.specs.declared.Scalar.the-variants.{U32}
-use Rattle.values.specs.declared.Kind.{Kind}
 use Rattle.values.specs.declared.Kind.the-variants.{Empty, One}
 use Rattle.values.specs.declared.Value.{Value}
 use Rattle.values.specs.Value.{laneBits, scalarOf, laneCount, isType, lanesOf, lane, value, emptyValue, wellFormed}
 use Rattle.values.proofs.Formed.{formed}
 use Rattle.values.proofs.Places.{itself}
 use Rattle.numeric.specs.Parts.{parts, joined}
-use Rattle.calls.specs.declared.Builtin.{Builtin}
-use Rattle.calls.specs.Table.{Taken, Only, Row, Unary, taken, takes}
-use Rattle.calls.specs.Refuse.{judged}
+use Rattle.calls.specs.Table.{Only, Unary, takes}
 use Rattle.builtins.specs.declared.Answer.{Answer}
 use Rattle.builtins.specs.Pack.{word, packed, unpacked}
-use Rattle.builtins.specs.Fold.{answered, answeredLosing, answerBy, foldIn}
-use Rattle.formats.specs.Formats.{Format, x8snorm, x8unorm, xI8, xU8, xI8Clamp, xU8Clamp, x16snorm, x16unorm, x16float, packer, unpacker, lanesKind, normalForm, callOne, trips, packing, unpacking, PackUnpack, SameLanes, PacksNormal}
-use Rattle.builtins.proofs.Folded.{folds}
+use Rattle.builtins.specs.Fold.{answered, answeredLosing, answerBy}
+use Rattle.formats.specs.Formats.{Format, x8snorm, x8unorm, xI8, xU8, xI8Clamp, xU8Clamp, x16snorm, x16unorm, x16float, packer, unpacker, lanesKind, normalForm, trips, packing, unpacking, PackUnpack, SameLanes, PacksNormal}
+use Rattle.builtins.proofs.Answers.{answers}
 use Rattle.builtins.proofs.Packed.{value-lanes}
 use Rattle.builtins.proofs.Parts.{joined-parts, length-parts}
 use Rattle.formats.proofs.Codes.{parts-joined, kept-joined, parts-alike, parts-below}
 use Rattle.formats.proofs.LaneLaws.{coding, laws}
 
 -- ---- what computes in each format
-
--- a call with one value is answered where its row takes it
-passes : (row : Row) (p : Taken) (t : Kind) (a b c : Value) → row ≡ Unary p → wellFormed a ≡ true → taken p (a .kind) ≡ true → judged row 1 t a b c ≡ 0
-unfolding judged
-passes row p t a b c e w k = rw (e, w, k)
-
-answers : (r : Reading) (f : Builtin) (p : Taken) (v : Value) → takes f ≡ Unary p → wellFormed v ≡ true → taken p (v .kind) ≡ true → foldIn r (callOne f v) ≡ answerBy r f Empty v emptyValue emptyValue
-answers r f p v e w k = folds r f 1 Empty v emptyValue emptyValue (passes (takes f) p Empty v emptyValue emptyValue e w k)
 
 by-format : (P : Format → Type 0) → P x8snorm → P x8unorm → P xI8 → P xU8 → P xI8Clamp → P xU8Clamp → P x16snorm → P x16unorm → P x16float → (f : Format) → P f
 by-format P a b c d e g h i j x8snorm = a

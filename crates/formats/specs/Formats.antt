@@ -10,17 +10,17 @@ use Rattle.readings.specs.declared.Reading.the-variants as In
 use Rattle.values.specs.declared.Scalar.the-variants.{I32, U32, F32}
 use Rattle.values.specs.declared.Size.the-variants.{Two, Four}
 use Rattle.values.specs.declared.Kind.{Kind}
-use Rattle.values.specs.declared.Kind.the-variants.{Empty, Vec}
+use Rattle.values.specs.declared.Kind.the-variants.{Vec}
 use Rattle.values.specs.declared.Value.{Value}
 use Rattle.calls.specs.declared.Builtin.{Builtin}
 use Rattle.calls.specs.declared.Builtin.the-variants.{Pack4x8snorm, Pack4x8unorm, Pack4xI8, Pack4xI8Clamp, Pack4xU8, Pack4xU8Clamp, Pack2x16snorm, Pack2x16unorm, Pack2x16float, Unpack4x8snorm, Unpack4x8unorm, Unpack4xI8, Unpack4xU8, Unpack2x16snorm, Unpack2x16unorm, Unpack2x16float}
-use Rattle.calls.specs.declared.Call.{Call}
-use Rattle.values.specs.Value.{emptyValue, wellFormed, lane}
+use Rattle.values.specs.Value.{wellFormed, lane}
 use Rattle.numeric.specs.Parts.{parts, joined}
 use Rattle.half.specs.Format.{f16, nan, isNan}
 use Rattle.norm.specs.Norm.{normalCode}
 use Rattle.builtins.specs.Pack.{word}
 use Rattle.builtins.specs.Fold.{foldIn}
+use Rattle.builtins.specs.Calls.{callOne}
 
 pub data Format : Type 0 where
   x8snorm x8unorm xI8 xU8 xI8Clamp xU8Clamp x16snorm x16unorm x16float : Format
@@ -74,10 +74,6 @@ normalForm xU8Clamp x = x
 normalForm x16snorm x = joined 16 (map (normalCode true 16) (parts 16 2 x))
 normalForm x16unorm x = x
 normalForm x16float x = joined 16 (map normalHalf (parts 16 2 x))
-
--- a call with one value
-abbrev pub callOne : Builtin → Value → Call
-callOne b v = record { builtin = b; count = 1; target = Empty; a = v; b = emptyValue; c = emptyValue }
 
 -- which formats have what follows in which reading: "Demand 3 holds in both and, in the text's, for the clamping packers with unpack4xI8 and unpack4xU8." In the crate's a negative lane of
 -- pack4xI8Clamp fills every lane above it.

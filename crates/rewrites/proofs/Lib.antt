@@ -1,0 +1,12 @@
+pub mod Equal
+pub mod Lanes
+pub mod Ranked
+pub mod Orders
+pub mod Ordered
+pub mod Products
+pub mod Vectors
+pub mod Transposed
+pub mod Rejoined
+pub mod Swapped
+pub mod Needed
+pub mod Laws
