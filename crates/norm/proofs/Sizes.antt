@@ -1,20 +1,27 @@
 -- Why `size_down`, `size_up` and `floor_code` are right: a finite float from 0 up is a fraction a / d, by which it is compared, and -0 is the fraction 0.
 -- Assumes nothing.
-use mathlib.Core.Path.{_≡_, refl, sym, ap, _∙_, subst}
-use Prim.Native.Nat.{ℕ, _+_, _-_, _*_, _/_, _%_, _≤_, _<_, min}
-use native.Mathlib.Nat.{mul-one, one-mul, zero-mul, mul-right-comm, add-mul, le-of-eq, le-trans, mul-le-mul-right, le-of-mul-le-mul-right, div-add-mod', mod-lt, le-div-iff-mul-le, div-lt-iff-lt-mul, zero-div, div-eq-of-lt, lt-of-mul-lt-mul-right}
+use mathlib.Core.Path.{_≡_, refl, sym, ap, ap₂, _∙_, subst}
+use Prim.Native.Nat.{ℕ, _+_, _-_, _*_, _/_, _%_, _^_, _≤_, _<_, min}
+use native.Mathlib.Nat.{mul-one, one-mul, zero-mul, mul-right-comm, add-mul, le-of-eq, le-trans, mul-le-mul-right, le-of-mul-le-mul-right, div-add-mod', mod-lt, le-div-iff-mul-le, div-lt-iff-lt-mul, lt-of-lt-of-le, zero-div, div-eq-of-lt, lt-of-mul-lt-mul-right}
 use native.Mathlib.Omega.{arith}
-use mathlib.Core.Bool.{Bool, true, false, _&&_, _||_, true≢false}
-use borrow.Author.Tests.{ltb-true, ltb-false}
+use mathlib.Core.Bool.{Bool, true, false, _&&_, _||_, cond, true≢false}
+use borrow.Author.Tests.{ltb-true, ltb-false, leb-true}
 use lib.Arith.{digits-div}
-use lib.Dec.{T, ltb, eqb, ltb→lt, lt→ltb, eqb→eq, lit≤}
+use lib.Dec.{T, leb, ltb, eqb, ltb→lt, lt→ltb, eqb→eq, lit≤}
+use lib.Pow.{pow-pos}
 use lib.IntN.{ℤ, pos}
-use lib.Ieee.{Float, nan, inf, fin, binary32, up, down, lt, le, eq, neg, ofInt, toUnsigned}
+use lib.Ieee.{Float, nan, inf, fin, binary32, up, down, odd, lt, le, eq, neg, ofInt, fits, isNan, ofFields, ofBits, toBits}
+use lib.Ieee.Bits.{is-true, ofBits-toBits, nanBits-is, nanBits-above}
 use lib.Ieee.Fits.{down-pos, and-i, and-l, eq→eqb}
-use lib.Ieee.Nearest.{div-mono}
+use lib.Ieee.Nearest.{div-mono, div-same}
 use lib.Ieee.Order.{le-of-values}
 use lib.Ieee.Exact.{HasValue}
 use lib.Ieee.Back.{round-whole}
+use Rattle.half.specs.Format as format
+use Rattle.half.specs.Format.{f32, magnitude, negative, fields, units, rank}
+use Rattle.half.proofs.Sizes.{units-lt}
+use Rattle.half.proofs.Library.{bits-value}
+use Rattle.floats.proofs.Order.{lt-rank, le-rank}
 use Rattle.norm.specs.Norm.{scale, depth, minus, floorCode}
 use Rattle.norm.specs.Sizes.{nought, sizeDown, sizeUp}
 
@@ -35,51 +42,54 @@ flat m e z = (ap (λ (x : ℕ). x / down e) z ∙ zero-div (down e), ap (λ (x :
 abbrev pub cap : Float
 cap = fin false 1 (pos 16)
 
-pub record Truncates (v : Float) : Type 0 where
-  pub above : T (lt (fin true 1 (pos 0)) v)
-  pub under : T (lt v (fin false 1 (pos 64)))
-  pub same : toUnsigned 64 v ≡ sizeDown v
-  pub small : sizeDown v < 65536
+-- the float's bits: what they stand for in whole numbers
+pub record Pointed (v : Float) : Type 0 where
+  pub small : magnitude f32 (toBits binary32 v) < 0x4780_0000
+  pub same : units f32 (magnitude f32 (toBits binary32 v)) / 2 ^ 149 ≡ sizeDown v
 
-uncapped : (q : ℕ) → q < 65536 → (min q 18446744073709551615 ≡ min q 65536) × (min q 65536 < 65536)
-uncapped q h = (omega arith, omega arith)
+down-is : (v : Float) (s : Bool) (u : ℕ) → HasValue v s u (2 ^ 149) → u / 2 ^ 149 < 65536 → u / 2 ^ 149 ≡ sizeDown v
+unfolding sizeDown
+down-is nan s u v h = absurd v
+down-is (inf t) s u v h = absurd v
+down-is (fin t m e) s u v h = sym (ap (λ (q : ℕ). min q 65536) (div-same (m * up e) (down e) u (2 ^ 149) (down-pos e) (pow-pos 149) (v .1)) ∙ uncapped (u / 2 ^ 149) h)
+  where
+    uncapped : (q : ℕ) → q < 65536 → min q 65536 ≡ q
+    uncapped q h = omega arith
 
-pub truncates : (v : Float) → T (le nought v) → T (lt v cap) → Truncates v
-unfolding le lt eq toUnsigned sizeDown
-truncates nan g h = absurd g
-truncates (inf true) g h = absurd g
-truncates (inf false) g h = absurd h
-truncates (fin false m e) g h =
-    let D = down-pos e in
-    let q = uncapped (m * up e / down e) (div-lt-iff-lt-mul D .1 (subst (λ (x : ℕ). x < 65536 * down e) (mul-one (m * up e)) (ltb→lt (m * up e * 1) (65536 * down e) h))) in
+-- 0 and 65536 as f32 patterns
+nought-bits : ofBits binary32 0 ≡ nought
+unfolding ofBits ofFields odd
+nought-bits = refl
+
+cap-bits : ofBits binary32 0x4780_0000 ≡ cap
+unfolding ofBits ofFields odd
+cap-bits = refl
+
+number : (v : Float) → T (lt v cap) → isNan v ≡ false
+unfolding lt isNan
+number nan h = absurd h
+number (inf s) h = refl
+number (fin s m e) h = refl
+
+pub pointed : (v : Float) → T (fits binary32 v) → T (le nought v) → T (lt v cap) → Pointed v
+unfolding fields
+pointed v f g h =
+    let n = toBits binary32 v in
+    let b : ofBits binary32 n ≡ v = ofBits-toBits binary32 v f in
+    let k : format.isNan f32 n ≡ false = sym (nanBits-above binary32 n) ∙ nanBits-is binary32 n ∙ ap isNan b ∙ number v h in
+    let below : ltb (rank f32 n) (rank f32 0x4780_0000) ≡ true = sym (lt-rank n 0x4780_0000 k refl) ∙ ap₂ lt b cap-bits ∙ is-true (lt v cap) h in
+    let above : leb (rank f32 0) (rank f32 n) ≡ true = sym (le-rank 0 n refl k) ∙ ap₂ le nought-bits b ∙ is-true (le nought v) g in
+    let small = range (negative f32 n) (magnitude f32 n) (mod-lt n (omega arith)) (ltb-true _ _ below) (leb-true _ _ above) in
+    let u = units f32 (magnitude f32 n) in
+    let most : u < 65536 * 2 ^ 149 = units-lt f32 (magnitude f32 n) 0x4780_0000 small in
     record {
-      above = lt→ltb 0 (1 * down e + m * up e * 1) (first (down e) (m * up e * 1) D);
-      under = lt→ltb (m * up e * 1) (18446744073709551616 * down e) (wide (m * up e * 1) (down e) (ltb→lt (m * up e * 1) (65536 * down e) h));
-      same = q .0;
-      small = q .1;
+      small = small;
+      same = down-is v (negative f32 n) u (subst (λ (x : Float). HasValue x (negative f32 n) u (2 ^ 149)) b (bits-value n (lt-of-lt-of-le small (lit≤ tt)))) (div-lt-iff-lt-mul (pow-pos 149) .1 most);
     }
   where
-    first : (d a : ℕ) → 0 < d → 0 < 1 * d + a
-    first d a h = omega arith
-
-    wide : (a d : ℕ) → a < 65536 * d → a < 18446744073709551616 * d
-    wide a d h = omega arith
-truncates (fin true m e) g h =
-    let D = down-pos e in
-    let z : m * up e ≡ 0 = minus-zero m e g in
-    let q : m * up e / down e ≡ 0 = flat m e z .0 in
-    record {
-      above = lt→ltb (m * up e * 1) (1 * down e) (first (m * up e) (down e) z D);
-      under = lt→ltb 0 (m * up e * 1 + 18446744073709551616 * down e) (second (m * up e) (down e) D);
-      same = sym (ap (λ (x : ℕ). min x 65536) q);
-      small = subst (λ (x : ℕ). min x 65536 < 65536) (sym q) (uncapped 0 (omega arith) .1);
-    }
-  where
-    first : (a d : ℕ) → a ≡ 0 → 0 < d → a * 1 < 1 * d
-    first a d z h = omega arith
-
-    second : (a d : ℕ) → 0 < d → 0 < a * 1 + 18446744073709551616 * d
-    second a d h = omega arith
+    range : (s : Bool) (m : ℕ) → m < 0x8000_0000 → cond s (0x8000_0000 - m) (0x8000_0000 + m) < 0x8000_0000 + 0x4780_0000 → 0x8000_0000 ≤ cond s (0x8000_0000 - m) (0x8000_0000 + m) → m < 0x4780_0000
+    range true m l h k = omega arith
+    range false m l h k = omega arith
 
 pub capped : (v : Float) → T (le nought v) → lt v cap ≡ false → 65536 ≡ sizeDown v
 unfolding le lt eq sizeDown

@@ -4,10 +4,11 @@ use floats::f32_of;
 use half::power;
 ghost use mathlib.Core.Path.{_≡_};
 ghost use mathlib.Core.Bool.{true, false, cond};
-ghost use Prim.Native.Nat.{_^_, _≤_, _<_, min};
+ghost use Prim.Native.Nat.{_/_, _^_, _≤_, _<_, min};
 ghost use lib.Dec.{T};
 ghost use lib.IntN.{pos};
-ghost use lib.Ieee.{binary32, lt, le, ofInt};
+ghost use lib.Ieee.{binary32, lt, le, ofInt, fits};
+ghost use Rattle.half.specs.Format.{f32, magnitude, units};
 ghost use Rattle.norm.specs.Norm as Norm;
 ghost use Rattle.norm.specs.Norm.{stepped, floorCode, packedNorm, unpackedNorm};
 ghost use Rattle.norm.specs.Sizes.{nought, sizeDown, sizeUp};
@@ -69,13 +70,25 @@ fn step(signed: bool, w: u32, x: f32) -> f32
     0.5 + whole(scale(signed, w)) * clamp(signed, x)
 }
 
-// v rounded down, at most 65536.
+// The digits before the point of the f32 from 0 up, and below 65536, whose bits these are.
+fn whole_part(n: u32) -> u32
+    requires { ⌜ magnitude f32 n < 0x4780_0000 ⌝ }
+    ensures { λ r. ⌜ r ≡ units f32 (magnitude f32 n) / 2 ^ 149 ⌝ }
+{
+    let m = n % 0x8000_0000;
+    if m < 0x3f80_0000 {
+        return 0;
+    }
+    (m % 0x80_0000 + 0x80_0000) >> (150 - m / 0x80_0000)
+}
+
+// v rounded down, at most 65536: from the bits, since a cast of an f32 goes by way of f64.
 fn size_down(v: f32) -> u32
-    requires { ⌜ T (le nought v) ⌝ }
+    requires { ⌜ T (le nought v) × T (fits binary32 v) ⌝ }
     ensures { λ r. ⌜ r ≡ sizeDown v ⌝ }
 {
     if v < 65536.0 {
-        std::num::truncating_f32_to_u64(v) as u32
+        whole_part(bits_of(v))
     } else {
         65536
     }
@@ -83,7 +96,7 @@ fn size_down(v: f32) -> u32
 
 // v rounded up, at most 65536.
 fn size_up(v: f32) -> u32
-    requires { ⌜ T (le nought v) ⌝ }
+    requires { ⌜ T (le nought v) × T (fits binary32 v) ⌝ }
     ensures { λ r. ⌜ r ≡ sizeUp v ⌝ }
 {
     let t = size_down(v);
@@ -110,7 +123,7 @@ fn minus(w: u32, n: u32) -> u32
 
 // Below 0 rounding down makes the size larger. A NaN is on neither side of 0.
 fn floor_code(signed: bool, w: u32, v: f32) -> u32
-    requires { ⌜ (1 ≤ w) × (w ≤ 16) ⌝ }
+    requires { ⌜ (1 ≤ w) × (w ≤ 16) × T (fits binary32 v) ⌝ }
     ensures { λ r. ⌜ r ≡ floorCode signed w v ⌝ }
 {
     if v >= 0.0 {

@@ -5,7 +5,8 @@ use Prim.Native.Nat.{ℕ, min}
 use native.Mathlib.Nat.{le-trans}
 use native.Mathlib.Omega.{arith}
 use lib.Dec.{T}
-use lib.Ieee.{ofBits}
+use lib.Ieee.{binary32, ofBits}
+use lib.Ieee.Fits.{neg-fits}
 use Rattle.norm.specs.Norm as Norm
 use Rattle.norm.proofs.Widths.{full-most, scale-most, depth-below}
 use Rattle.norm.proofs.Sizes.{floor-up, negated, floor-down, floor-none}
@@ -14,7 +15,7 @@ use Rattle.norm.proofs.floor_code.Tie as tie
 
 size-down-requires : tie.Need-size-down-requires
 unfolding ofBits
-size-down-requires c κs = subst T (sym (c .if1 .taken)) tt
+size-down-requires c κs = (subst T (sym (c .if1 .taken)) tt, c .before .pre .2)
 
 scale-requires : tie.Need-scale-requires
 scale-requires c κs = search needs
@@ -24,7 +25,7 @@ smaller-requires c κs = search needs
 
 size-up-requires : tie.Need-size-up-requires
 unfolding ofBits
-size-up-requires c κs = negated _ (subst T (sym (c .if2 .taken)) tt)
+size-up-requires c κs = (negated _ (subst T (sym (c .if2 .taken)) tt), neg-fits binary32 (c .before .before .args .v) (c .before .before .pre .2))
 
 depth-requires : tie.Need-depth-requires
 depth-requires c κs = search needs

@@ -1,6 +1,8 @@
 -- `norm::pack` meets its contract: its three steps are the definition's. Assumes nothing.
 use borrow.Author.Needs.{needs}
-use Rattle.norm.specs.Norm.{packedNorm}
+use lib.Ieee.{binary32}
+use lib.Ieee.Fits.{add-fits}
+use Rattle.norm.specs.Norm.{stepped, packedNorm}
 use Rattle.norm.proofs.pack.Statement.{statement}
 use Rattle.norm.proofs.pack.Tie as tie
 
@@ -11,7 +13,8 @@ step-requires : tie.Need-step-requires
 step-requires c κs = search needs
 
 floor-code-requires : tie.Need-floor-code-requires
-floor-code-requires c κs = search needs
+unfolding stepped
+floor-code-requires c κs = (c .before .before .pre .0, c .before .before .pre .1, rw (c .step .ensures) (add-fits binary32 _ _))
 
 returns : tie.Need-returns
 unfolding packedNorm

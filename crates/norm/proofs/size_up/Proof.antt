@@ -20,7 +20,7 @@ add-result c = search needs
 next : (c : tie.After-whole) → Up (c .before .before .before .args .v) (c .before .before .size-down .result)
 next c =
     let d = c .before .before in
-    up-one (d .before .args .v) (d .size-down .result) (d .before .pre) (d .size-down .ensures) (c .before .if1 .taken)
+    up-one (d .before .args .v) (d .size-down .result) (d .before .pre .0) (d .size-down .ensures) (c .before .if1 .taken)
 
 returns : tie.Need-returns
 returns c = next (c .before) .more (subst (λ (t : Float). lt t (c .before .before .before .before .args .v) ≡ true) (c .before .whole .ensures) (c .if2 .taken))
@@ -31,7 +31,7 @@ returns-2 c = next (c .before) .none (subst (λ (t : Float). lt t (c .before .be
 returns-3 : tie.Need-returns-3
 returns-3 c =
     let d = c .before in
-    up-capped (d .before .args .v) (d .before .pre) (subst (λ (n : ℕ). 65536 ≤ n) (d .size-down .ensures) (c .if1 .left))
+    up-capped (d .before .args .v) (d .before .pre .0) (subst (λ (n : ℕ). 65536 ≤ n) (d .size-down .ensures) (c .if1 .left))
 
 pub size-up-spec : {M : Type 1} → statement M
 size-up-spec = tie.close (tie.spec size-down-requires whole-requires add-result returns returns-2 returns-3)
