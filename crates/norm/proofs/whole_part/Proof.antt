@@ -1,6 +1,6 @@
 -- `norm::whole_part` meets its contract: from 1 up the size is the digits times a power of two, and 1 is a higher one. Assumes nothing.
 use borrow.Author.Needs.{needs}
-use mathlib.Core.Path.{_≡_, refl, sym, ap, ap₂, _∙_}
+use mathlib.Core.Path.{_≡_, sym, ap, ap₂, _∙_}
 use Prim.Native.Nat.{ℕ, suc, _+_, _-_, _*_, _/_, _%_, _^_, _≤_, _<_}
 use native.Mathlib.Nat.{div-eq-of-lt, div-add-mod', mod-lt, mul-div-mul-right}
 use native.Mathlib.Omega.{arith}

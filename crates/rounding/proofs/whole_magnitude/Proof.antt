@@ -1,15 +1,13 @@
 -- `rounding::whole_magnitude` meets its contract: its numbers are the format's, and of the two results the one that the magnitude's side of 1 asks for is
 -- chosen. Assumes nothing.
 use borrow.Author.Needs.{needs}
-use mathlib.Core.Path.{_≡_, sym, ap, _∙_}
+use mathlib.Core.Path.{_≡_, ap, _∙_}
 use mathlib.Core.Logic.{inl, inr}
-use mathlib.Core.Bool.{true, false, cond}
-use Prim.Native.Nat.{ℕ, _+_, _-_, _*_, _/_, _%_, _^_, _≤_, _<_}
-use native.Mathlib.Nat.{le-trans, le-of-eq, lt-of-lt-of-le, mod-le, mod-lt}
+use mathlib.Core.Bool.{cond}
+use Prim.Native.Nat.{ℕ, _-_, _≤_, _<_}
 use native.Mathlib.Omega.{arith}
 use borrow.Author.Tests.{lt-ltb, le-ltb}
 use lib.Dec.{ltb}
-use lib.Pow.{pow-pos, pow-mono}
 use Rattle.half.specs.Program.{format}
 use Rattle.half.proofs.Closest.{split}
 use Rattle.rounding.specs.Rounding.{wholeMagnitude}
