@@ -10,6 +10,7 @@ mod wholes;
 
 use calls::Builtin;
 use calls::types_of;
+use engines::Engine;
 use judging::tests::one_value;
 use packing::Coding8;
 use packing::Coding16;
@@ -96,7 +97,14 @@ fn given_word(ok: bool, x: u32, loss: u8) -> Outcome
 }
 
 // The arm of each builtin. The one jump comes first; behind it each arm tests the call by the shape of its row and by the types of the row, a constant there.
-pub fn arm(reading: Reading, which: Builtin, w: &[u64], p: u64, x: [u32; 4]) -> Outcome
+pub fn arm(
+    reading: Reading,
+    engine: Engine,
+    which: Builtin,
+    w: &[u64],
+    p: u64,
+    x: [u32; 4],
+) -> Outcome
     requires { ⌜ (3 ≤ length (now w)) × First (now w) p ⌝ }
     ensures { λ r. ⌜ r ≡ outcome reading which (eqb (judgedIn (shapeOf (takes which)) (typesOf (takes which)) (getD (now (w .entry)) 1 0) (now (w .entry))) 0)
         (getD (now (w .entry)) 2 0) p x (valueAt (now (w .entry)) 20) (valueAt (now (w .entry)) 37) ⌝ }
@@ -142,6 +150,7 @@ pub fn arm(reading: Reading, which: Builtin, w: &[u64], p: u64, x: [u32; 4]) -> 
         Builtin::Bitcast => bitcast::bitcast(w, n, p, types_of(Builtin::Bitcast), x),
         Builtin::Pack4x8snorm => pack::pack8(
             reading,
+            engine,
             w,
             n,
             p,
@@ -151,6 +160,7 @@ pub fn arm(reading: Reading, which: Builtin, w: &[u64], p: u64, x: [u32; 4]) -> 
         ),
         Builtin::Pack4x8unorm => pack::pack8(
             reading,
+            engine,
             w,
             n,
             p,
@@ -160,6 +170,7 @@ pub fn arm(reading: Reading, which: Builtin, w: &[u64], p: u64, x: [u32; 4]) -> 
         ),
         Builtin::Pack4xI8 => pack::pack8(
             reading,
+            engine,
             w,
             n,
             p,
@@ -177,6 +188,7 @@ pub fn arm(reading: Reading, which: Builtin, w: &[u64], p: u64, x: [u32; 4]) -> 
         ),
         Builtin::Pack4xU8 => pack::pack8(
             reading,
+            engine,
             w,
             n,
             p,
@@ -186,6 +198,7 @@ pub fn arm(reading: Reading, which: Builtin, w: &[u64], p: u64, x: [u32; 4]) -> 
         ),
         Builtin::Pack4xU8Clamp => pack::pack8(
             reading,
+            engine,
             w,
             n,
             p,
@@ -221,6 +234,7 @@ pub fn arm(reading: Reading, which: Builtin, w: &[u64], p: u64, x: [u32; 4]) -> 
             x,
         ),
         Builtin::Unpack4x8snorm => pack::unpack8(
+            engine,
             w,
             n,
             p,
@@ -230,6 +244,7 @@ pub fn arm(reading: Reading, which: Builtin, w: &[u64], p: u64, x: [u32; 4]) -> 
             x,
         ),
         Builtin::Unpack4x8unorm => pack::unpack8(
+            engine,
             w,
             n,
             p,
@@ -239,6 +254,7 @@ pub fn arm(reading: Reading, which: Builtin, w: &[u64], p: u64, x: [u32; 4]) -> 
             x,
         ),
         Builtin::Unpack4xI8 => pack::unpack8(
+            engine,
             w,
             n,
             p,
@@ -248,6 +264,7 @@ pub fn arm(reading: Reading, which: Builtin, w: &[u64], p: u64, x: [u32; 4]) -> 
             x,
         ),
         Builtin::Unpack4xU8 => pack::unpack8(
+            engine,
             w,
             n,
             p,

@@ -6,6 +6,7 @@ use crate::given;
 use crate::given_one;
 use crate::given_word;
 use calls::table::Shape;
+use engines::Engine;
 use judging::tests::one_value;
 use packing::Coding8;
 use packing::Coding16;
@@ -23,6 +24,7 @@ ghost use Rattle.arms.specs.Program.{given, givenOne, givenWord};
 
 pub fn pack8(
     reading: Reading,
+    engine: Engine,
     w: &[u64],
     n: u64,
     p: u64,
@@ -33,7 +35,11 @@ pub fn pack8(
     requires { ⌜ First (now w) p ⌝ }
     ensures { λ r. ⌜ r ≡ givenOne (eqb (judgedIn Shape.OneValue set n (now (w .entry))) 0) 3 (joined 8 (four (code8Of reading t) x)) ⌝ }
 {
-    given_one(one_value(w, n, p, set), U32, packing::word8(reading, t, x))
+    given_one(
+        one_value(w, n, p, set),
+        U32,
+        packing::word8(reading, engine, t, x),
+    )
 }
 
 pub fn pack16(
@@ -65,11 +71,20 @@ pub fn pack_clamped(reading: Reading, w: &[u64], n: u64, p: u64, set: u64, x: [u
 }
 
 // To the vector type at k.
-pub fn unpack8(w: &[u64], n: u64, p: u64, set: u64, t: Coding8, k: u64, x: [u32; 4]) -> Outcome
+pub fn unpack8(
+    engine: Engine,
+    w: &[u64],
+    n: u64,
+    p: u64,
+    set: u64,
+    t: Coding8,
+    k: u64,
+    x: [u32; 4],
+) -> Outcome
     requires { ⌜ First (now w) p ⌝ }
     ensures { λ r. ⌜ r ≡ given (eqb (judgedIn Shape.OneValue set n (now (w .entry))) 0) k (map (lane8Of t) (parts 8 4 (getD x 0 0))) ⌝ }
 {
-    given(one_value(w, n, p, set), k, packing::lanes8(t, x[0]))
+    given(one_value(w, n, p, set), k, packing::lanes8(engine, t, x[0]))
 }
 
 pub fn unpack16(w: &[u64], n: u64, p: u64, set: u64, t: Coding16, x: [u32; 4]) -> Outcome

@@ -2,6 +2,7 @@
 mod matrix;
 
 use arms::Outcome;
+use engines::Engine;
 use readings::Reading;
 use values::Value;
 ghost use mathlib.Core.Path.{_≡_};
@@ -72,8 +73,8 @@ fn put_answer(out: &mut [u64], a: Outcome) -> u8
     0
 }
 
-// Folds a call of words into the words of its answer, in the reading that the caller chooses. Answers the refusal's number, 0 where there is none.
-pub fn fold_in(reading: Reading, w: &[u64], out: &mut [u64]) -> u8
+// Folds a call of words into the words of its answer, in the reading and by the engine that the caller chooses. Answers the refusal's number, 0 where there is none.
+pub fn fold_in(reading: Reading, engine: Engine, w: &[u64], out: &mut [u64]) -> u8
     ensures { λ r. ⌜ (r ≡ refusalIn reading (length (now (out .entry))) (now (w .entry)))
         × (now (out .exit) ≡ put (now (out .entry)) 0 (writtenIn reading (length (now (out .entry))) (now (w .entry)))) ⌝ }
 {
@@ -88,17 +89,24 @@ pub fn fold_in(reading: Reading, w: &[u64], out: &mut [u64]) -> u8
         return refusal(w);
     }
     let i = w[0];
-    let a = arms::arm(reading, calls::builtin_at(i), w, p, words::cut_at(w, 3));
+    let a = arms::arm(
+        reading,
+        engine,
+        calls::builtin_at(i),
+        w,
+        p,
+        words::cut_at(w, 3),
+    );
     if !a.passes {
         return refusal(w);
     }
     put_answer(out, a)
 }
 
-// In the crate's.
+// In the crate's reading, by arithmetic.
 pub fn fold(w: &[u64], out: &mut [u64]) -> u8
     ensures { λ r. ⌜ (r ≡ refusalIn Reading.Crate (length (now (out .entry))) (now (w .entry)))
         × (now (out .exit) ≡ put (now (out .entry)) 0 (writtenIn Reading.Crate (length (now (out .entry))) (now (w .entry)))) ⌝ }
 {
-    fold_in(Reading::Crate, w, out)
+    fold_in(Reading::Crate, Engine::Arithmetic, w, out)
 }

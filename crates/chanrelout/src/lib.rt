@@ -2,10 +2,11 @@
 // pointer and a length. bindings/ has the C header and the Rust crate.
 use readings::Reading;
 ghost use mathlib.Core.Path.{_≡_};
-ghost use mathlib.Core.Bool.{cond};
+ghost use mathlib.Core.Bool.{cond, _&&_};
 ghost use mathlib.Core.List.{[]};
 ghost use lib.ListN.{length};
 ghost use Rattle.readings.specs.Readings.{isReading, readingAt};
+ghost use Rattle.engines.specs.Engines.{isEngine};
 ghost use Rattle.half.specs.Convert.{halfOf, singleOf};
 ghost use Rattle.losses.specs.Losses.{toldOf};
 ghost use Rattle.buffers.specs.Memory.{put};
@@ -39,20 +40,52 @@ pub extern "C" fn chanrelout_call(call: &[u64], out: &mut [u64]) -> u8
     builtins::fold(call, out)
 }
 
-// What a number gives that is no reading: a refusal by 1, as of a name that is not in the table, before anything is looked at.
-const NO_SUCH_READING: u8 = 1;
+// What a number gives that is no reading or no engine: a refusal by 1, as of a name that is not in the table, before anything is looked at.
+const NO_SUCH_CHOICE: u8 = 1;
 
-// The same two in a reading, 0 the crate's and 1 the text's.
+// The same two in a reading, 0 the crate's and 1 the text's, and by an engine, 0 arithmetic and 1 tables, which changes no answer.
+#[no_mangle]
+pub extern "C" fn chanrelout_line_by(
+    reading: u64,
+    engine: u64,
+    line: &[u8],
+    out: &mut [u8],
+) -> u64
+    ensures { λ r. ⌜ (r ≡ cond (isReading reading && isEngine engine) (lineNumber (text.lineAnswer (readingAt reading) (length (now (out .entry))) (now (line .entry)))) (refusalOrCount 1 0))
+        × (now (out .exit) ≡ put (now (out .entry)) 0 (cond (isReading reading && isEngine engine) (text.writtenIn (readingAt reading) (length (now (out .entry))) (now (line .entry))) [])) ⌝ }
+{
+    if (reading > 1) | (engine > 1) {
+        return NO_SUCH_CHOICE as u64 * 0x1_0000_0000;
+    }
+    let chosen = engines::engine_at(engine);
+    let a = lines::fold_line_in(readings::reading_at(reading), chosen, line, out);
+    numbers::line_number(a)
+}
+
+#[no_mangle]
+pub extern "C" fn chanrelout_call_by(
+    reading: u64,
+    engine: u64,
+    call: &[u64],
+    out: &mut [u64],
+) -> u8
+    ensures { λ r. ⌜ (r ≡ cond (isReading reading && isEngine engine) (refusalIn (readingAt reading) (length (now (out .entry))) (now (call .entry))) 1)
+        × (now (out .exit) ≡ put (now (out .entry)) 0 (cond (isReading reading && isEngine engine) (writtenIn (readingAt reading) (length (now (out .entry))) (now (call .entry))) [])) ⌝ }
+{
+    if (reading > 1) | (engine > 1) {
+        return NO_SUCH_CHOICE;
+    }
+    let chosen = engines::engine_at(engine);
+    builtins::fold_in(readings::reading_at(reading), chosen, call, out)
+}
+
+// In a reading, by arithmetic.
 #[no_mangle]
 pub extern "C" fn chanrelout_line_in(reading: u64, line: &[u8], out: &mut [u8]) -> u64
     ensures { λ r. ⌜ (r ≡ cond (isReading reading) (lineNumber (text.lineAnswer (readingAt reading) (length (now (out .entry))) (now (line .entry)))) (refusalOrCount 1 0))
         × (now (out .exit) ≡ put (now (out .entry)) 0 (cond (isReading reading) (text.writtenIn (readingAt reading) (length (now (out .entry))) (now (line .entry))) [])) ⌝ }
 {
-    if reading > 1 {
-        return NO_SUCH_READING as u64 * 0x1_0000_0000;
-    }
-    let a = lines::fold_line_in(readings::reading_at(reading), line, out);
-    numbers::line_number(a)
+    chanrelout_line_by(reading, 0, line, out)
 }
 
 #[no_mangle]
@@ -60,10 +93,7 @@ pub extern "C" fn chanrelout_call_in(reading: u64, call: &[u64], out: &mut [u64]
     ensures { λ r. ⌜ (r ≡ cond (isReading reading) (refusalIn (readingAt reading) (length (now (out .entry))) (now (call .entry))) 1)
         × (now (out .exit) ≡ put (now (out .entry)) 0 (cond (isReading reading) (writtenIn (readingAt reading) (length (now (out .entry))) (now (call .entry))) [])) ⌝ }
 {
-    if reading > 1 {
-        return NO_SUCH_READING;
-    }
-    builtins::fold_in(readings::reading_at(reading), call, out)
+    chanrelout_call_by(reading, 0, call, out)
 }
 
 // Reads a value's text into its 17 words. Answers the refusal's number times 2^32, and the place of a fault, counted from 1.

@@ -1,6 +1,7 @@
 // A line folded: the call that its fields spell, as words, and the answer's text in lent memory.
 use answers::LineAnswer;
 use cutting::MOST_BYTES;
+use engines::Engine;
 use readings::Reading;
 ghost use mathlib.Core.Path.{_≡_};
 ghost use Prim.Native.Nat.{_≤_};
@@ -83,8 +84,8 @@ fn misspelled(line: &[u8], end: usize, cast: bool) -> LineAnswer
     }
 }
 
-// Folds a line in the reading that the caller chooses. The answer is written at the start of the lent memory, without a newline; a refusal leaves the memory as it is.
-pub fn fold_line_in(reading: Reading, line: &[u8], out: &mut [u8]) -> LineAnswer
+// Folds a line in the reading and by the engine that the caller chooses. The answer is written at the start of the lent memory, without a newline; a refusal leaves the memory as it is.
+pub fn fold_line_in(reading: Reading, engine: Engine, line: &[u8], out: &mut [u8]) -> LineAnswer
     ensures { λ r. ⌜ (r ≡ lineAnswer reading (length (now (out .entry))) (now (line .entry)))
         × (now (out .exit) ≡ put (now (out .entry)) 0 (writtenIn reading (length (now (out .entry))) (now (line .entry)))) ⌝ }
 {
@@ -100,17 +101,17 @@ pub fn fold_line_in(reading: Reading, line: &[u8], out: &mut [u8]) -> LineAnswer
     let cast = buffers::same(b"bitcast", name);
     put_call(&mut call, line, name, cast);
     let mut answer: [u64; 35] = [0; 35];
-    let refusal = builtins::fold_in(reading, &call, &mut answer);
+    let refusal = builtins::fold_in(reading, engine, &call, &mut answer);
     if refusal == 3 {
         return misspelled(line, name.len(), cast);
     }
     answers::put_answer(out, refusal, &answer)
 }
 
-// In the crate's.
+// In the crate's reading, by arithmetic.
 pub fn fold_line(line: &[u8], out: &mut [u8]) -> LineAnswer
     ensures { λ r. ⌜ (r ≡ lineAnswer Reading.Crate (length (now (out .entry))) (now (line .entry)))
         × (now (out .exit) ≡ put (now (out .entry)) 0 (writtenIn Reading.Crate (length (now (out .entry))) (now (line .entry)))) ⌝ }
 {
-    fold_line_in(Reading::Crate, line, out)
+    fold_line_in(Reading::Crate, Engine::Arithmetic, line, out)
 }

@@ -1,4 +1,5 @@
 // The lanes of packed words. A format is the width of its lanes, 8 or 16, and a coding: how a lane becomes a code of that width, and a code a lane.
+use engines::Engine;
 use readings::Reading;
 ghost use mathlib.Core.Path.{_≡_};
 ghost use mathlib.Core.Bool.{true, false};
@@ -202,7 +203,7 @@ fn join16(a: u16, b: u16) -> u32
     a as u32 + 0x1_0000 * b as u32
 }
 
-pub fn word8(reading: Reading, t: Coding8, x: [u32; 4]) -> u32
+pub fn word8(reading: Reading, engine: Engine, t: Coding8, x: [u32; 4]) -> u32
     ensures { λ r. ⌜ r ≡ joined 8 (four (code8Of reading t) x) ⌝ }
 {
     join8(
@@ -237,7 +238,7 @@ pub fn word16(reading: Reading, t: Coding16, x: [u32; 4]) -> PackedWord
     }
 }
 
-pub fn lanes8(t: Coding8, x: u32) -> [u32; 4]
+pub fn lanes8(engine: Engine, t: Coding8, x: u32) -> [u32; 4]
     ensures { λ r. ⌜ r ≡ map (lane8Of t) (parts 8 4 x) ⌝ }
 {
     [
@@ -277,6 +278,6 @@ pub fn clamped_word(reading: Reading, x: [u32; 4]) -> u32
 {
     match reading {
         Reading::Crate => fill_word(x),
-        Reading::Text => word8(reading, Coding8::ClampedSigned, x),
+        Reading::Text => word8(reading, Engine::Arithmetic, Coding8::ClampedSigned, x),
     }
 }

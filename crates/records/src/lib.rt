@@ -1,6 +1,7 @@
 // 01's records as a view of the fold of words: a call by value, and its answer by value.
 use builtins::Answer;
 use calls::Call;
+use engines::Engine;
 use readings::Reading;
 ghost use mathlib.Core.Path.{_≡_};
 ghost use Prim.Native.Nat.{_<_, _≤_};
@@ -38,12 +39,18 @@ fn loss_in(out: &[u64]) -> u8
 }
 
 // A refused call leaves the words of its answer as they are: two empty values and no loss.
-fn fold_words(reading: Reading, w: &mut [u64], out: &mut [u64], call: Call) -> Answer
+fn fold_words(
+    reading: Reading,
+    engine: Engine,
+    w: &mut [u64],
+    out: &mut [u64],
+    call: Call,
+) -> Answer
     requires { ⌜ (length (now w) ≡ 54) × (now out ≡ replicate 35 0) ⌝ }
     ensures { λ r. ⌜ r ≡ foldIn reading call ⌝ }
 {
     put_call(w, call);
-    let refusal = builtins::fold_in(reading, w, out);
+    let refusal = builtins::fold_in(reading, engine, w, out);
     Answer {
         refusal: refusal,
         first: words::value_at(out, 0),
@@ -52,18 +59,18 @@ fn fold_words(reading: Reading, w: &mut [u64], out: &mut [u64], call: Call) -> A
     }
 }
 
-// What a call gives in the reading that the caller chooses.
-pub fn fold_in(reading: Reading, call: Call) -> Answer
+// What a call gives in the reading and by the engine that the caller chooses.
+pub fn fold_in(reading: Reading, engine: Engine, call: Call) -> Answer
     ensures { λ r. ⌜ r ≡ foldIn reading call ⌝ }
 {
     let mut w = [0; 54];
     let mut out = [0; 35];
-    fold_words(reading, &mut w, &mut out, call)
+    fold_words(reading, engine, &mut w, &mut out, call)
 }
 
-// In the crate's.
+// In the crate's reading, by arithmetic.
 pub fn fold(call: Call) -> Answer
     ensures { λ r. ⌜ r ≡ foldOf call ⌝ }
 {
-    fold_in(Reading::Crate, call)
+    fold_in(Reading::Crate, Engine::Arithmetic, call)
 }

@@ -1,5 +1,6 @@
 // Lines of a buffer, answered one after another in the reading that the caller chooses, and what of the buffer is kept for later.
 use answers::LineAnswer;
+use engines::Engine;
 use readings::Reading;
 ghost use mathlib.Core.Path.{_≡_};
 ghost use mathlib.Core.List.{[]};
@@ -47,7 +48,7 @@ fn line_at(reading: Reading, line: &[u8], out: &mut [u8], at: usize) -> LineAnsw
     ensures { λ r. ⌜ (r ≡ lineAnswer reading (length (now (out .entry)) - at) (now (line .entry)))
         × (now (out .exit) ≡ put (now (out .entry)) at (writtenIn reading (length (now (out .entry)) - at) (now (line .entry)))) ⌝ }
 {
-    lines::fold_line_in(reading, line, &mut out[at..])
+    lines::fold_line_in(reading, Engine::Arithmetic, line, &mut out[at..])
 }
 
 // A line's answer and its newline at a place; answers the next place.
