@@ -43,40 +43,36 @@ pub extern "C" fn chanrelout_call(call: &[u64], out: &mut [u64]) -> u8
 // What a number gives that is no reading or no engine: a refusal by 1, as of a name that is not in the table, before anything is looked at.
 const NO_SUCH_CHOICE: u8 = 1;
 
+fn are_choices(reading: u64, engine: u64) -> bool
+    ensures { λ r. ⌜ r ≡ isReading reading && isEngine engine ⌝ }
+{
+    (reading < 2) & (engine < 2)
+}
+
 // The same two in a reading, 0 the crate's and 1 the text's, and by an engine, 0 arithmetic and 1 tables, which changes no answer.
 #[no_mangle]
-pub extern "C" fn chanrelout_line_by(
-    reading: u64,
-    engine: u64,
-    line: &[u8],
-    out: &mut [u8],
-) -> u64
+pub extern "C" fn chanrelout_line_by(reading: u64, engine: u64, line: &[u8], out: &mut [u8]) -> u64
     ensures { λ r. ⌜ (r ≡ cond (isReading reading && isEngine engine) (lineNumber (text.lineAnswer (readingAt reading) (length (now (out .entry))) (now (line .entry)))) (refusalOrCount 1 0))
         × (now (out .exit) ≡ put (now (out .entry)) 0 (cond (isReading reading && isEngine engine) (text.writtenIn (readingAt reading) (length (now (out .entry))) (now (line .entry))) [])) ⌝ }
 {
-    if (reading > 1) | (engine > 1) {
-        return NO_SUCH_CHOICE as u64 * 0x1_0000_0000;
+    if are_choices(reading, engine) {
+        let chosen = engines::engine_at(engine);
+        let a = lines::fold_line_in(readings::reading_at(reading), chosen, line, out);
+        return numbers::line_number(a);
     }
-    let chosen = engines::engine_at(engine);
-    let a = lines::fold_line_in(readings::reading_at(reading), chosen, line, out);
-    numbers::line_number(a)
+    NO_SUCH_CHOICE as u64 * 0x1_0000_0000
 }
 
 #[no_mangle]
-pub extern "C" fn chanrelout_call_by(
-    reading: u64,
-    engine: u64,
-    call: &[u64],
-    out: &mut [u64],
-) -> u8
+pub extern "C" fn chanrelout_call_by(reading: u64, engine: u64, call: &[u64], out: &mut [u64]) -> u8
     ensures { λ r. ⌜ (r ≡ cond (isReading reading && isEngine engine) (refusalIn (readingAt reading) (length (now (out .entry))) (now (call .entry))) 1)
         × (now (out .exit) ≡ put (now (out .entry)) 0 (cond (isReading reading && isEngine engine) (writtenIn (readingAt reading) (length (now (out .entry))) (now (call .entry))) [])) ⌝ }
 {
-    if (reading > 1) | (engine > 1) {
-        return NO_SUCH_CHOICE;
+    if are_choices(reading, engine) {
+        let chosen = engines::engine_at(engine);
+        return builtins::fold_in(readings::reading_at(reading), chosen, call, out);
     }
-    let chosen = engines::engine_at(engine);
-    builtins::fold_in(readings::reading_at(reading), chosen, call, out)
+    NO_SUCH_CHOICE
 }
 
 // In a reading, by arithmetic.
