@@ -3,5 +3,4 @@ pub mod Ranges
 pub mod Text
 pub mod Steps
 pub mod Crate
-pub mod Calls
 pub mod Laws

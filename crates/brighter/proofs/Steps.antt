@@ -9,7 +9,7 @@ use mathlib.Core.Bool.{Bool, true, false, cond, true≢false}
 use borrow.Author.Tests.{lt-ltb, le-ltb}
 use lib.Dec.{lit<, lit≤}
 use lib.Pow.{pow-pos}
-use lib.Ieee.{Float, nan, inf, fin, binary32, up, round, unlike, add, mul, ofInt, ofBits}
+use lib.Ieee.{Float, nan, inf, fin, binary32, up, round, ofBits}
 use lib.Ieee as ieee
 use lib.Ieee.Exact.{HasValue}
 use Rattle.readings.specs.declared.Reading.the-variants as In
@@ -18,12 +18,11 @@ use Rattle.half.specs.Format.{f32, magnitude, negative}
 use Rattle.half.specs.Nearest.{apart}
 use Rattle.half.proofs.Closest.{split}
 use Rattle.half.proofs.Library.{bits-value}
-use Rattle.norm.specs.Norm.{scale, depth, minus, half, stepped, floorCode, packedNorm, number}
+use Rattle.norm.specs.Norm.{scale, depth, minus, stepped, floorCode, packedNorm, number}
 use Rattle.norm.proofs.Widths.{scale-most}
-use Rattle.floats.proofs.Sums.{add-value}
-use Rattle.norm.proofs.Fractions.{unit, units, within, signed, mul-value}
+use Rattle.norm.proofs.Fractions.{unit, units, within, signed}
 use Rattle.norm.proofs.Codes.{code-from-0, code-below-0, size-most}
-use Rattle.norm.proofs.Steps.{whole, half-value}
+use Rattle.norm.proofs.Steps as norm
 use Rattle.exact.specs.Exact.{one}
 use Rattle.brighter.specs.Brighter.{Inside, allowed}
 use Rattle.brighter.proofs.Numbers as numbers
@@ -134,17 +133,7 @@ module _ (g : Bool) (w x : ℕ) (W : 1 ≤ w) (hi : w ≤ 16) (i : Inside g x) w
   first = rounds 1 y (pow-pos 149) (le-trans y-most (mul-le-mul-right {n = 65536} one (le-trans (scale-most g w hi) (lit≤ tt))))
 
   steps : stepped g w (ofBits binary32 x) ≡ ieee.sum binary32 false (1 * unit) (negative f32 x) (p * 2) (2 * unit)
-  unfolding stepped ofInt
-  steps =
-      let S = scale g w in
-      let s = negative f32 x in
-      ap (λ (z : Float). add binary32 half (mul binary32 (round binary32 false S 1) z)) (ranges.float-kept g x i)
-      ∙ ap (add binary32 half) (mul-value binary32 (round binary32 false S 1) (ofBits binary32 x) false s S 1 (format.units f32 (magnitude f32 x)) unit (omega arith) (pow-pos 149) (whole false S (le-trans (scale-most g w hi) (lit≤ tt))) (bits-value x (ranges.finite g x i)) ∙ ap (λ (t : Bool). round binary32 t y (1 * unit)) (same s))
-      ∙ add-value binary32 half (round binary32 s y (1 * unit)) false s 1 2 p unit (omega arith) (pow-pos 149) half-value (signed s y (1 * unit) p (first .0))
-    where
-      same : (s : Bool) → unlike false s ≡ s
-      same true = refl
-      same false = refl
+  steps = norm.steps g w (le-trans (scale-most g w hi) (lit≤ tt)) (ofBits binary32 x) (format.units f32 (magnitude f32 x)) (negative f32 x) (ranges.float-kept g x i) (bits-value x (ranges.finite g x i)) (first .0)
 
   -- ---- the code
   pub sized : (n : ℕ) → 64 * apart (n * one) y ≤ allowed In.Crate * one → Sized g w (negative f32 x) n

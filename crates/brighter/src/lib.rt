@@ -1,1 +1,1 @@
-// Brighter never packs darker: statements over what the packers give in both readings, and their proofs; no code.
+// Brighter never packs darker, of lanes: statements over the codes of a lane in both readings, and their proofs; no code.

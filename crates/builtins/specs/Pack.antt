@@ -1,4 +1,4 @@
--- Packing and unpacking words: 01, "Lane i of a packed word stands at bit 8i or 16i". The lanes are packing's, by the reading, and the half lanes half's. Definitions only.
+-- Packing and unpacking words: 01, "Lane i of a packed word stands at bit 8i or 16i". The integer lanes are packing's and the norm lanes exact's, by the reading, and the half lanes half's. Definitions only.
 use Prim.Native.Nat.{ℕ}
 use mathlib.Core.Bool.{Bool}
 use mathlib.Core.List.{[], _∷_, map}
@@ -13,7 +13,8 @@ use Rattle.values.specs.Value.{lanesOf, lane, value}
 use Rattle.numeric.specs.Parts.{parts, joined}
 use Rattle.losses.specs.Losses.{lossNumber, lossOf, largest}
 use Rattle.norm.specs.Norm.{unpackedNorm}
-use Rattle.packing.specs.Lanes.{fillingFrom, clampedI8, normCode}
+use Rattle.exact.specs.Exact.{normCode}
+use Rattle.packing.specs.Lanes.{fillingFrom, clampedI8}
 
 -- "pack4xI8Clamp takes the low 8 bits as signed, extends the sign to 32 bits, shifts to the lane and joins by or, so that a negative lane fills every lane above it."
 abbrev pub filling : Value → ℕ → ℕ

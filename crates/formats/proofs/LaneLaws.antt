@@ -18,8 +18,9 @@ use Rattle.half.proofs.Single.{single-nan, single-below, half-back, half-back-n
 use Rattle.norm.specs.Norm.{unpackedNorm, normalCode}
 use Rattle.norm.proofs.Lanes.{unpacks-as-normal}
 use Rattle.norm.proofs.Trip.{trip, unpacked-below}
+use Rattle.exact.specs.Exact.{normCode}
 use Rattle.exact.proofs.Trip.{exact-trip}
-use Rattle.packing.specs.Lanes.{lowByte, extended, plain, clampedI8, codeU8, normCode}
+use Rattle.packing.specs.Lanes.{lowByte, extended, plain, clampedI8, codeU8}
 use Rattle.packing.proofs.Codes.{code-normal}
 use Rattle.formats.specs.Formats.{Format, x8snorm, x8unorm, xI8, xU8, xI8Clamp, xU8Clamp, x16snorm, x16unorm, x16float, normalHalf}
 

@@ -152,15 +152,17 @@ not-above (fin false m e) s u h v = le-ltb (1 * down e) (m * up e * 1) (one-most
 
 -- ---- the code
 module _ (g : Bool) (w : ℕ) (sm : scale g w ≤ 65536) (x : Float) (u : ℕ) where
-  abbrev product : ℕ
+  abbrev pub product : ℕ
   product = units (scale g w * u) unit
 
-  steps : (s : Bool) → lt x (least g) ≡ false → u ≤ unit → HasValue x s u unit → HasValue (round binary32 false (scale g w * u) unit) false product unit → stepped g w x ≡ sum binary32 false (1 * unit) s (product * 2) (2 * unit)
+  kept : (s : Bool) → lt x (least g) ≡ false → u ≤ unit → HasValue x s u unit → clamped g x ≡ x
+  kept s nb h v = simp (nb, not-above x s u h v)
+
+  pub steps : (s : Bool) → clamped g x ≡ x → HasValue x s u unit → HasValue (round binary32 false (scale g w * u) unit) false product unit → stepped g w x ≡ sum binary32 false (1 * unit) s (product * 2) (2 * unit)
   unfolding stepped ofInt
-  steps s nb h v p =
+  steps s k v p =
       let S = scale g w in
-      let kept : clamped g x ≡ x = simp (nb, not-above x s u h v) in
-      ap (λ (y : Float). add binary32 half (mul binary32 (round binary32 false S 1) y)) kept
+      ap (λ (y : Float). add binary32 half (mul binary32 (round binary32 false S 1) y)) k
       ∙ ap (add binary32 half) (mul-value binary32 (round binary32 false S 1) x false s S 1 u unit (omega arith) (pow-pos 149) (whole false S sm) v ∙ ap (λ (t : Bool). round binary32 t (S * u) unit) (same s))
       ∙ add-value binary32 half (round binary32 s (S * u) unit) false s 1 2 product unit (omega arith) (pow-pos 149) half-value (signed s (S * u) unit product p)
     where
@@ -174,7 +176,7 @@ module _ (g : Bool) (w : ℕ) (sm : scale g w ≤ 65536) (x : Float) (u : ℕ) w
       let t = times n (scale g w * u) (le-trans h sm) (k .quarter) in
       let p = plus n product (le-trans h sm) (t .1) in
       let i = inside n (units (1 * unit + product * 2) (2 * unit)) unit (p .low) (p .high) (pow-pos 149) in
-      ap (floorCode g w) (steps false (not-below g x u v) (k .small) v (t .0))
+      ap (floorCode g w) (steps false (kept false (not-below g x u v) (k .small) v) v (t .0))
       ∙ code-from-0 g w n _ _ h (p .value) (le-of-lt (i .0)) (i .1)
 
   pub packs-below-0 : (n : ℕ) → suc n ≤ scale g w → suc n ≤ depth g w → lt x (least g) ≡ false → HasValue x true u unit → Near (scale g w) (suc n) u → floorCode g w (stepped g w x) ≡ 2 ^ w - suc n
@@ -183,6 +185,6 @@ module _ (g : Bool) (w : ℕ) (sm : scale g w ≤ 65536) (x : Float) (u : ℕ) w
       let t = times (suc n) (scale g w * u) (le-trans h sm) (k .quarter) in
       let p = less n product (le-of-lt (le-trans h sm)) (t .1) in
       let i = inside n (units (product * 2 - 1 * unit) (2 * unit)) unit (p .1 .low) (p .1 .high) (pow-pos 149) in
-      ap (floorCode g w) (steps true nb (k .small) v (t .0))
+      ap (floorCode g w) (steps true (kept true nb (k .small) v) v (t .0))
       ∙ ap (λ (b : Bool). floorCode g w (cond b (round binary32 true (product * 2 - 1 * unit) (2 * unit)) (round binary32 false (1 * unit - product * 2) (2 * unit)))) (lt-ltb (1 * unit) (product * 2) (p .0))
       ∙ code-below-0 g w n _ _ dp (signed true (product * 2 - 1 * unit) (2 * unit) _ (p .1 .value)) (i .0) (le-of-lt (i .1))

@@ -6,8 +6,8 @@ use native.Mathlib.Nat.{mod-eq-of-lt}
 use Rattle.readings.specs.declared.Reading.{Reading}
 use Rattle.readings.specs.declared.Reading.the-variants as In
 use Rattle.norm.proofs.Normal.{Normal, packed}
+use Rattle.exact.specs.Exact.{normCode}
 use Rattle.exact.proofs.Codes.{exact-normal}
-use Rattle.packing.specs.Lanes.{normCode}
 
 pub code-normal : (r : Reading) (g : Bool) (w x : ℕ) → 1 ≤ w → w ≤ 16 → Normal g w (normCode r g w x)
 code-normal In.Crate g w x lo hi = packed g w x lo hi

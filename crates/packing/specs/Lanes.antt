@@ -1,11 +1,9 @@
--- The lanes of packed words in a reading: the integer lanes, and which norm lanes are meant, norm's or exact's. The half lanes are half's. Definitions only.
+-- The integer lanes of packed words, in a reading. The norm lanes are exact's `normCode`, the half lanes half's. Definitions only.
 use Prim.Native.Nat.{ℕ, _+_, _-_, _*_, _%_, _^_, min, max}
-use mathlib.Core.Bool.{Bool, cond}
+use mathlib.Core.Bool.{cond}
 use lib.Dec.{ltb}
 use Rattle.readings.specs.declared.Reading.{Reading}
 use Rattle.readings.specs.declared.Reading.the-variants as In
-use Rattle.norm.specs.Norm.{packedNorm}
-use Rattle.exact.specs.Exact.{exactCode}
 
 -- "pack4xI8 and pack4xU8 keep the low 8 bits of each lane. pack4xU8Clamp also keeps the low 8 bits."
 abbrev pub lowByte : ℕ → ℕ
@@ -39,8 +37,3 @@ clampedU8 x = min x 255
 abbrev pub codeU8 : Reading → ℕ → ℕ
 codeU8 In.Crate = lowByte
 codeU8 In.Text = clampedU8
-
--- "the four norm packers round down the exact value .., not the f32 steps"
-abbrev pub normCode : Reading → Bool → ℕ → ℕ → ℕ
-normCode In.Crate = packedNorm
-normCode In.Text = exactCode

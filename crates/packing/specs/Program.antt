@@ -7,6 +7,7 @@ use lib.ListN.{getD}
 use Rattle.half.specs.Convert.{halfOf, singleOf}
 use Rattle.losses.specs.Losses.{lossNumber, lossOf}
 use Rattle.norm.specs.Norm.{unpackedNorm}
+use Rattle.exact.specs.Exact.{normCode}
 use Rattle.readings.specs.declared.Reading.{Reading}
 use Rattle.readings.specs.declared.Reading.the-variants as In
 use Rattle.values.specs.Program.{four}
@@ -16,7 +17,7 @@ use Rattle.packing.specs.declared.Coding8.the-variants as Of8
 use Rattle.packing.specs.declared.Coding16.{Coding16}
 use Rattle.packing.specs.declared.Coding16.the-variants as Of16
 use Rattle.packing.specs.declared.Coded16.{Coded16}
-use Rattle.packing.specs.Lanes.{lowByte, extended, plain, fillingFrom, clampedI8, codeU8, normCode}
+use Rattle.packing.specs.Lanes.{lowByte, extended, plain, fillingFrom, clampedI8, codeU8}
 
 abbrev pub code8Of : Reading → Coding8 → ℕ → ℕ
 code8Of r Of8.Snorm = normCode r true 8

@@ -10,7 +10,8 @@ ghost use Rattle.half.specs.Convert.{halfOf};
 ghost use Rattle.values.specs.Program.{four};
 ghost use Rattle.numeric.specs.Parts.{parts, joined};
 ghost use Rattle.losses.specs.Losses.{largest};
-ghost use Rattle.packing.specs.Lanes.{extended, fillingFrom, clampedI8, codeU8, normCode};
+ghost use Rattle.exact.specs.Exact.{normCode};
+ghost use Rattle.packing.specs.Lanes.{extended, fillingFrom, clampedI8, codeU8};
 ghost use Rattle.packing.specs.Program.{code8Of, lane8Of, code16Of, loss16Of, lane16Of, coded, fillFour, clampFour};
 
 // The clamped ones are the lanes of pack4xI8Clamp, where its lanes are kept apart, and of pack4xU8Clamp.

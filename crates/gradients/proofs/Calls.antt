@@ -10,10 +10,11 @@ use Rattle.values.specs.declared.Value.{Value}
 use Rattle.values.specs.Value.{laneCount, lane, value}
 use Rattle.numeric.specs.Parts.{parts, joined}
 use Rattle.builtins.proofs.Parts.{lowest, others}
+use Rattle.brighter.specs.Brighter.{Coding, codeOf}
 use Rattle.formats.specs.Formats.{Format, x8snorm, x8unorm, x16snorm, x16unorm, x16float, lanesKind, trips}
 use Rattle.formats.proofs.LaneLaws.{coding, laws}
 use Rattle.formats.proofs.PackedFormats.{packs}
-use Rattle.brighter.specs.Brighter.{Coding, codeOf, packedAt, Taken, EachPacker}
+use Rattle.gradients.specs.Gradients.{packedAt, Taken, EachPacker}
 
 joined-code : (w : ℕ) (f : ℕ → ℕ) → ((x : ℕ) → f x < 2 ^ w) → (n : ℕ) (l : List ℕ) → n ≤ length l → (i : ℕ) → i < n → getD (parts w n (joined w (map f (take n l)))) i 0 ≡ f (getD l i 0)
 joined-code w f b zero l h i k = absurd (omega arith)
