@@ -1,0 +1,3 @@
+pub mod Unpacked
+pub mod Halving
+pub mod Reached
