@@ -17,6 +17,8 @@ use Rattle.packing.specs.declared.Coding8.the-variants as Of8
 use Rattle.packing.specs.declared.Coding16.{Coding16}
 use Rattle.packing.specs.declared.Coding16.the-variants as Of16
 use Rattle.packing.specs.declared.Coded16.{Coded16}
+use Rattle.packing.specs.declared.Table.{Table}
+use Rattle.packing.specs.declared.Table.the-variants as By
 use Rattle.packing.specs.Lanes.{lowByte, extended, plain, fillingFrom, clampedI8, codeU8}
 
 abbrev pub code8Of : Reading → Coding8 → ℕ → ℕ
@@ -39,6 +41,19 @@ abbrev pub code16Of : Reading → Coding16 → ℕ → ℕ
 code16Of r Of16.Snorm = normCode r true 16
 code16Of r Of16.Unorm = normCode r false 16
 code16Of r Of16.Float = halfOf
+
+-- the table that has the lanes, and that packs them in a reading
+abbrev pub tableOf : Coding8 → Table
+tableOf Of8.Snorm = By.Snorm
+tableOf Of8.Unorm = By.Unorm
+tableOf Of8.Signed = By.Neither
+tableOf Of8.Unsigned = By.Neither
+tableOf Of8.ClampedSigned = By.Neither
+tableOf Of8.ClampedUnsigned = By.Neither
+
+abbrev pub tableIn : Reading → Coding8 → Table
+tableIn In.Crate t = tableOf t
+tableIn In.Text t = By.Neither
 
 -- what a lane loses that becomes such a code
 abbrev pub loss16Of : Coding16 → ℕ → ℕ

@@ -10,9 +10,10 @@ ghost use Rattle.half.specs.Convert.{halfOf};
 ghost use Rattle.values.specs.Program.{four};
 ghost use Rattle.numeric.specs.Parts.{parts, joined};
 ghost use Rattle.losses.specs.Losses.{largest};
+ghost use Rattle.norm.specs.Norm.{packedNorm};
 ghost use Rattle.exact.specs.Exact.{normCode};
 ghost use Rattle.packing.specs.Lanes.{extended, fillingFrom, clampedI8, codeU8};
-ghost use Rattle.packing.specs.Program.{code8Of, lane8Of, code16Of, loss16Of, lane16Of, coded, fillFour, clampFour};
+ghost use Rattle.packing.specs.Program.{tableOf, tableIn, code8Of, lane8Of, code16Of, loss16Of, lane16Of, coded, fillFour, clampFour};
 
 // The clamped ones are the lanes of pack4xI8Clamp, where its lanes are kept apart, and of pack4xU8Clamp.
 pub enum Coding8 {
@@ -190,6 +191,38 @@ fn lane16(t: Coding16, c: u16) -> u32
     }
 }
 
+// ---- engines
+
+// The table that has a coding's lanes.
+enum Table {
+    Snorm,
+    Unorm,
+    Neither,
+}
+
+fn table_of(t: Coding8) -> Table
+    ensures { λ r. ⌜ r ≡ tableOf t ⌝ }
+{
+    match t {
+        Coding8::Snorm => Table::Snorm,
+        Coding8::Unorm => Table::Unorm,
+        Coding8::Signed => Table::Neither,
+        Coding8::Unsigned => Table::Neither,
+        Coding8::ClampedSigned => Table::Neither,
+        Coding8::ClampedUnsigned => Table::Neither,
+    }
+}
+
+// Lanes are packed by table in the crate's reading alone.
+fn table_in(reading: Reading, t: Coding8) -> Table
+    ensures { λ r. ⌜ r ≡ tableIn reading t ⌝ }
+{
+    match reading {
+        Reading::Crate => table_of(t),
+        Reading::Text => Table::Neither,
+    }
+}
+
 // ---- words
 
 fn join8(a: u8, b: u8, c: u8, d: u8) -> u32
@@ -204,7 +237,7 @@ fn join16(a: u16, b: u16) -> u32
     a as u32 + 0x1_0000 * b as u32
 }
 
-pub fn word8(reading: Reading, engine: Engine, t: Coding8, x: [u32; 4]) -> u32
+fn word_by_arithmetic(reading: Reading, t: Coding8, x: [u32; 4]) -> u32
     ensures { λ r. ⌜ r ≡ joined 8 (four (code8Of reading t) x) ⌝ }
 {
     join8(
@@ -213,6 +246,33 @@ pub fn word8(reading: Reading, engine: Engine, t: Coding8, x: [u32; 4]) -> u32
         code8(reading, t, x[2]),
         code8(reading, t, x[3]),
     )
+}
+
+fn norm_word(signed: bool, x: [u32; 4]) -> u32
+    ensures { λ r. ⌜ r ≡ joined 8 (four (packedNorm signed 8) x) ⌝ }
+{
+    let c = tables::codes(signed, x);
+    join8(c[0], c[1], c[2], c[3])
+}
+
+fn word_by_tables(reading: Reading, t: Coding8, x: [u32; 4]) -> u32
+    ensures { λ r. ⌜ r ≡ joined 8 (four (code8Of reading t) x) ⌝ }
+{
+    let table = table_in(reading, t);
+    match table {
+        Table::Snorm => norm_word(true, x),
+        Table::Unorm => norm_word(false, x),
+        Table::Neither => word_by_arithmetic(reading, t, x),
+    }
+}
+
+pub fn word8(reading: Reading, engine: Engine, t: Coding8, x: [u32; 4]) -> u32
+    ensures { λ r. ⌜ r ≡ joined 8 (four (code8Of reading t) x) ⌝ }
+{
+    match engine {
+        Engine::Arithmetic => word_by_arithmetic(reading, t, x),
+        Engine::Tables => word_by_tables(reading, t, x),
+    }
 }
 
 // The larger of two losses' numbers.
@@ -239,15 +299,47 @@ pub fn word16(reading: Reading, t: Coding16, x: [u32; 4]) -> PackedWord
     }
 }
 
+fn codes_of(x: u32) -> [u8; 4]
+    ensures { λ r. ⌜ r ≡ parts 8 4 x ⌝ }
+{
+    [
+        low8(x),
+        low8(x / 0x100),
+        low8(x / 0x100 / 0x100),
+        low8(x / 0x100 / 0x100 / 0x100),
+    ]
+}
+
+fn lanes_by_arithmetic(t: Coding8, c: [u8; 4]) -> [u32; 4]
+    ensures { λ r. ⌜ r ≡ four (lane8Of t) c ⌝ }
+{
+    [
+        lane8(t, c[0]),
+        lane8(t, c[1]),
+        lane8(t, c[2]),
+        lane8(t, c[3]),
+    ]
+}
+
+fn lanes_by_tables(t: Coding8, c: [u8; 4]) -> [u32; 4]
+    ensures { λ r. ⌜ r ≡ four (lane8Of t) c ⌝ }
+{
+    let table = table_of(t);
+    match table {
+        Table::Snorm => tables::lanes(true, c),
+        Table::Unorm => tables::lanes(false, c),
+        Table::Neither => lanes_by_arithmetic(t, c),
+    }
+}
+
 pub fn lanes8(engine: Engine, t: Coding8, x: u32) -> [u32; 4]
     ensures { λ r. ⌜ r ≡ map (lane8Of t) (parts 8 4 x) ⌝ }
 {
-    [
-        lane8(t, low8(x)),
-        lane8(t, low8(x / 0x100)),
-        lane8(t, low8(x / 0x100 / 0x100)),
-        lane8(t, low8(x / 0x100 / 0x100 / 0x100)),
-    ]
+    let c = codes_of(x);
+    match engine {
+        Engine::Arithmetic => lanes_by_arithmetic(t, c),
+        Engine::Tables => lanes_by_tables(t, c),
+    }
 }
 
 // Two lanes of the four.
@@ -279,6 +371,6 @@ pub fn clamped_word(reading: Reading, x: [u32; 4]) -> u32
 {
     match reading {
         Reading::Crate => fill_word(x),
-        Reading::Text => word8(reading, Engine::Arithmetic, Coding8::ClampedSigned, x),
+        Reading::Text => word_by_arithmetic(reading, Coding8::ClampedSigned, x),
     }
 }

@@ -9,4 +9,4 @@ clamped-word-spec =
     (tie.spec
     (λ c. search needs) (λ c κs. search needs) (λ c. search needs) (λ c κs. search needs)
     (λ c. rw (c .before .enum-told .given .1) (c .fill-word .ensures))
-    (λ c. rw (c .before .enum-told2 .given .1) (c .word8 .ensures)))
+    (λ c. rw (c .before .enum-told2 .given .1) (c .word-by-arithmetic .ensures)))
