@@ -7,7 +7,7 @@
 
 mod child;
 
-use chanrelout::{fold_line, fold_words, Builtin, ANSWER_WORDS, LONGEST_LISTING, MOST_LINES};
+use chanrelout::{fold_line, fold_words, fold_words_by, Builtin, Engine, Reading, Refusal, ANSWER_WORDS, LONGEST_LISTING, MOST_LINES};
 use std::{
     cmp::Ordering,
     env, fs,
@@ -32,6 +32,8 @@ fn main() {
     programs(&text, foldlines, rustlines, emulator);
     part("abs and the roundings");
     roundings(foldlines, rustlines, emulator);
+    part("engines");
+    engines();
     part("half conversions");
     halves();
     part("the order of two values");
@@ -96,18 +98,23 @@ fn records(text: &[u8]) {
     for (what, most) in [("record calls", FEW), ("record calls, memory", MANY)] {
         let count = ours.len().min(most);
         let rounds = TURN / count;
-        report(what, rounds * count, folded(&ours[..count], &theirs[..count], rounds));
+        report(what, rounds * count, folded(fold_words, &ours[..count], &theirs[..count], rounds));
     }
 }
 
 /// The same calls by both sides, so many times over.
-fn folded(ours: &[chanrelout::Call], theirs: &[rustlines::Call], rounds: usize) -> (Duration, Duration) {
+fn folded(
+    fold: impl Fn(&[u64], &mut [u64]) -> Result<(), Refusal>,
+    ours: &[chanrelout::Call],
+    theirs: &[rustlines::Call],
+    rounds: usize,
+) -> (Duration, Duration) {
     let mut out = [0; ANSWER_WORDS];
     in_turns(
         || {
             timed(|| {
                 for call in (0..rounds).flat_map(|_| ours) {
-                    black_box(fold_words(black_box(call.words()), &mut out)).expect("an answer");
+                    black_box(fold(black_box(call.words()), &mut out)).expect("an answer");
                 }
             })
         },
@@ -161,13 +168,45 @@ fn roundings(foldlines: &str, rustlines: &str, emulator: &[String]) {
         let (ours, theirs): (Vec<_>, Vec<_>) =
             few.map(|line| (call_of(line).expect("a call"), rustlines::read_call(line).expect("a call"))).unzip();
         let rounds = TURN / FEW;
-        report(&format!("{name}, record calls"), rounds * FEW, folded(&ours, &theirs, rounds));
+        report(&format!("{name}, record calls"), rounds * FEW, folded(fold_words, &ours, &theirs, rounds));
         let text = lines.concat();
         let times = in_turns(
             || child::time(emulator, foldlines, text.as_bytes()),
             || child::time(emulator, rustlines, text.as_bytes()),
         );
         report(&format!("{name}, lines"), LINES, times);
+    }
+}
+
+// ---- the two engines of the 8-bit norm formats, on lanes within and beside the clamping range and on any words
+
+fn engines() {
+    let mut random = random_bits();
+    let words: Vec<String> = (0..FEW).map(|_| format!("u32:{:08X}", random())).collect();
+    // from 2^-10 to 2, of either sign
+    let mut single = || {
+        let bits = random();
+        bits & 0x807F_FFFF | (117 + bits % 11) << 23
+    };
+    let vectors: Vec<String> = (0..FEW)
+        .map(|_| format!("vec4<f32>:{:08X},{:08X},{:08X},{:08X}", single(), single(), single(), single()))
+        .collect();
+    for (name, values) in [
+        ("pack4x8snorm", &vectors),
+        ("pack4x8unorm", &vectors),
+        ("unpack4x8snorm", &words),
+        ("unpack4x8unorm", &words),
+    ] {
+        let lines: Vec<String> = values.iter().map(|value| format!("{name}\t{value}")).collect();
+        let (ours, theirs): (Vec<_>, Vec<_>) = lines
+            .iter()
+            .map(|line| (call_of(line.as_bytes()).expect("a call"), rustlines::read_call(line.as_bytes()).expect("a call")))
+            .unzip();
+        let rounds = TURN / FEW;
+        for (how, engine) in [("arithmetic", Engine::Arithmetic), ("tables", Engine::Tables)] {
+            let fold = |call: &[u64], out: &mut [u64]| fold_words_by(Reading::Crate, engine, call, out);
+            report(&format!("{name}, {how}"), rounds * FEW, folded(fold, &ours, &theirs, rounds));
+        }
     }
 }
 

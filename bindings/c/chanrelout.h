@@ -51,6 +51,18 @@ enum chanrelout_reading {
     CHANRELOUT_TEXT = 1   /* as the WGSL specification and foldtext */
 };
 
+/* ---- engines
+
+   What a call gives is the same by each engine, which is proved; they differ in what the processor does for it. By tables
+   pack4x8snorm and pack4x8unorm in the crate's reading, and unpack4x8snorm and unpack4x8unorm, do without a float
+   operation; all else is by arithmetic. The functions that take an engine refuse any other number as they refuse a
+   reading's; those that take none go by arithmetic. */
+
+enum chanrelout_engine {
+    CHANRELOUT_ARITHMETIC = 0,
+    CHANRELOUT_TABLES = 1
+};
+
 /* ---- lines: a call spelled as text
 
    line     the call: the builtin's name and its arguments, a tab before each. A value is its type, a colon, and its
@@ -67,6 +79,10 @@ uint64_t chanrelout_line(const uint8_t *line, size_t line_len, uint8_t *out, siz
 
 /* The same in a reading, a number of enum chanrelout_reading. */
 uint64_t chanrelout_line_in(uint64_t reading, const uint8_t *line, size_t line_len, uint8_t *out, size_t out_len);
+
+/* And by an engine, a number of enum chanrelout_engine. */
+uint64_t chanrelout_line_by(uint64_t reading, uint64_t engine, const uint8_t *line, size_t line_len, uint8_t *out,
+                            size_t out_len);
 
 static inline enum chanrelout_refusal chanrelout_line_refusal(uint64_t answer)
 {
@@ -131,6 +147,10 @@ uint8_t chanrelout_call(const uint64_t *call, size_t call_len, uint64_t *out, si
 /* The same in a reading, a number of enum chanrelout_reading. */
 uint8_t chanrelout_call_in(uint64_t reading, const uint64_t *call, size_t call_len, uint64_t *out, size_t out_len);
 
+/* And by an engine, a number of enum chanrelout_engine. */
+uint8_t chanrelout_call_by(uint64_t reading, uint64_t engine, const uint64_t *call, size_t call_len, uint64_t *out,
+                           size_t out_len);
+
 /* The same for a record. */
 static inline enum chanrelout_refusal chanrelout_fold(const struct chanrelout_call *call, struct chanrelout_answer *out)
 {
@@ -144,6 +164,14 @@ static inline enum chanrelout_refusal chanrelout_fold_in(enum chanrelout_reading
 {
     return (enum chanrelout_refusal)chanrelout_call_in((uint64_t)reading, (const uint64_t *)call, sizeof *call / 8,
                                                        (uint64_t *)out, sizeof *out / 8);
+}
+
+static inline enum chanrelout_refusal chanrelout_fold_by(enum chanrelout_reading reading, enum chanrelout_engine engine,
+                                                         const struct chanrelout_call *call,
+                                                         struct chanrelout_answer *out)
+{
+    return (enum chanrelout_refusal)chanrelout_call_by((uint64_t)reading, (uint64_t)engine, (const uint64_t *)call,
+                                                       sizeof *call / 8, (uint64_t *)out, sizeof *out / 8);
 }
 
 /* Types. A vector's number is CHANRELOUT_VECTOR of its lanes (2 to 4) and its scalar, a matrix's CHANRELOUT_MATRIX of

@@ -1,4 +1,4 @@
-/* Packs a colour, in both readings too, unpacks it again, tells what halves lost, folds a line, reads and writes a value and puts values and
+/* Packs a colour, in both readings and by both engines too, unpacks it again, tells what halves lost, folds a line, reads and writes a value and puts values and
    lines in order: ./run builds and runs this. */
 
 #include "chanrelout.h"
@@ -89,6 +89,17 @@ int main(void)
     }
     printf("%-16s %d\n", "a third reading", chanrelout_call_in(2, (const uint64_t *)&close, sizeof close / 8,
                                                               (uint64_t *)&read, sizeof read / 8));
+
+    /* The same by tables, as a record and as a line; a third engine there is none. */
+    char by_line[CHANRELOUT_LONGEST_ANSWER];
+    if (chanrelout_fold_by(CHANRELOUT_CRATE, CHANRELOUT_TABLES, &close, &read) != CHANRELOUT_ANSWERED)
+        return 1;
+    print_value("by tables", &read.first, 1);
+    uint64_t line_by = chanrelout_line_by(CHANRELOUT_CRATE, CHANRELOUT_TABLES, (const uint8_t *)same, strlen(same),
+                                          (uint8_t *)by_line, sizeof by_line);
+    printf("%-16s %.*s\n", "as a line", (int)chanrelout_line_length(line_by), by_line);
+    printf("%-16s %d\n", "a third engine", chanrelout_call_by(CHANRELOUT_CRATE, 2, (const uint64_t *)&close,
+                                                             sizeof close / 8, (uint64_t *)&read, sizeof read / 8));
 
     /* What it gave is the next call's argument as it stands. */
     struct chanrelout_call unpack = {.builtin = CHANRELOUT_UNPACK4X8UNORM, .count = 1};

@@ -1,4 +1,4 @@
-use crate::{ffi, value::VALUE_WORDS, Builtin, Loss, Reading, Refusal, Type, Value};
+use crate::{ffi, value::VALUE_WORDS, Builtin, Engine, Loss, Reading, Refusal, Type, Value};
 
 const SLOTS: usize = 3;
 const HEAD_WORDS: usize = 3;
@@ -22,9 +22,16 @@ pub fn fold_words(call: &[u64], out: &mut [u64]) -> Result<(), Refusal> {
 /// The same in a reading.
 #[inline]
 pub fn fold_words_in(reading: Reading, call: &[u64], out: &mut [u64]) -> Result<(), Refusal> {
+    fold_words_by(reading, Engine::Arithmetic, call, out)
+}
+
+/// The same in a reading and by an engine, which changes no answer.
+#[inline]
+pub fn fold_words_by(reading: Reading, engine: Engine, call: &[u64], out: &mut [u64]) -> Result<(), Refusal> {
+    let (reading, engine) = (reading.number(), engine.number());
     // SAFETY: each pointer and length are those of a slice, and a shared and an exclusive one do not overlap.
     let number =
-        unsafe { ffi::chanrelout_call_in(reading.number(), call.as_ptr(), call.len(), out.as_mut_ptr(), out.len()) };
+        unsafe { ffi::chanrelout_call_by(reading, engine, call.as_ptr(), call.len(), out.as_mut_ptr(), out.len()) };
     Refusal::from_number(number).map_or(Ok(()), Err)
 }
 
@@ -85,8 +92,13 @@ impl Call {
 
     /// What the call gives in a reading.
     pub fn fold_in(&self, reading: Reading) -> Result<Answer, Refusal> {
+        self.fold_by(reading, Engine::Arithmetic)
+    }
+
+    /// What the call gives in a reading, worked out by an engine.
+    pub fn fold_by(&self, reading: Reading, engine: Engine) -> Result<Answer, Refusal> {
         let mut out = [0; ANSWER_WORDS];
-        fold_words_in(reading, self.words(), &mut out)?;
+        fold_words_by(reading, engine, self.words(), &mut out)?;
         Ok(Answer::of_words(&out))
     }
 }
@@ -111,6 +123,16 @@ pub fn fold(builtin: Builtin, arguments: &[Value]) -> Result<Answer, Refusal> {
 /// The same in a reading.
 pub fn fold_in(reading: Reading, builtin: Builtin, arguments: &[Value]) -> Result<Answer, Refusal> {
     Call::new(builtin, arguments).fold_in(reading)
+}
+
+/// The same in a reading, worked out by an engine.
+pub fn fold_by(
+    reading: Reading,
+    engine: Engine,
+    builtin: Builtin,
+    arguments: &[Value],
+) -> Result<Answer, Refusal> {
+    Call::new(builtin, arguments).fold_by(reading, engine)
 }
 
 #[cfg(test)]
@@ -139,14 +161,38 @@ mod tests {
     }
 
     #[test]
-    fn a_number_that_is_no_reading_is_refused() {
+    fn engines_agree() {
+        let lanes = [f32::NAN, f32::INFINITY, -0.0, 0.5, -1.0, 1.0e-45, f32::from_bits(0x3B00_8080), 0.999];
+        for (i, &x) in lanes.iter().enumerate() {
+            let four = Value::from([x, lanes[(i + 1) % 8], lanes[(i + 3) % 8], -x]);
+            let word = Value::from(0x80FF_7F01u32.rotate_left(i as u32));
+            for reading in [Reading::Crate, Reading::Text] {
+                for (builtin, argument) in [
+                    (Builtin::Pack4x8snorm, four),
+                    (Builtin::Pack4x8unorm, four),
+                    (Builtin::Unpack4x8snorm, word),
+                    (Builtin::Unpack4x8unorm, word),
+                    (Builtin::Floor, four),
+                ] {
+                    let by = |engine| fold_by(reading, engine, builtin, &[argument]);
+                    assert_eq!(by(Engine::Tables), by(Engine::Arithmetic), "{builtin} {argument}");
+                    assert_eq!(by(Engine::Arithmetic), fold_in(reading, builtin, &[argument]));
+                }
+            }
+        }
+        assert_eq!(Engine::default(), Engine::Arithmetic);
+    }
+
+    #[test]
+    fn a_number_that_is_no_reading_or_no_engine_is_refused() {
         let call = Call::new(Builtin::Abs, &[Value::from(1.0f32)]);
-        for reading in [2, u64::MAX] {
+        for (reading, engine) in [(2, 0), (u64::MAX, 1), (0, 2), (1, u64::MAX)] {
             let mut out = [7; ANSWER_WORDS];
             let words = call.words();
             // SAFETY: each pointer and length are those of a slice, and they do not overlap.
-            let number =
-                unsafe { ffi::chanrelout_call_in(reading, words.as_ptr(), words.len(), out.as_mut_ptr(), out.len()) };
+            let number = unsafe {
+                ffi::chanrelout_call_by(reading, engine, words.as_ptr(), words.len(), out.as_mut_ptr(), out.len())
+            };
             assert_eq!(number, 1);
             assert_eq!(out, [7; ANSWER_WORDS]);
         }

@@ -4,8 +4,22 @@
 extern "C" {
     pub fn chanrelout_line(line: *const u8, line_len: usize, out: *mut u8, out_len: usize) -> u64;
     pub fn chanrelout_call(call: *const u64, call_len: usize, out: *mut u64, out_len: usize) -> u8;
-    pub fn chanrelout_line_in(reading: u64, line: *const u8, line_len: usize, out: *mut u8, out_len: usize) -> u64;
-    pub fn chanrelout_call_in(reading: u64, call: *const u64, call_len: usize, out: *mut u64, out_len: usize) -> u8;
+    pub fn chanrelout_line_by(
+        reading: u64,
+        engine: u64,
+        line: *const u8,
+        line_len: usize,
+        out: *mut u8,
+        out_len: usize,
+    ) -> u64;
+    pub fn chanrelout_call_by(
+        reading: u64,
+        engine: u64,
+        call: *const u64,
+        call_len: usize,
+        out: *mut u64,
+        out_len: usize,
+    ) -> u8;
     pub fn chanrelout_read_value(text: *const u8, text_len: usize, value: *mut u64, value_len: usize) -> u64;
     pub fn chanrelout_write_value(value: *const u64, value_len: usize, out: *mut u8, out_len: usize) -> u64;
     pub fn chanrelout_compare(a: *const u64, a_len: usize, b: *const u64, b_len: usize) -> u8;

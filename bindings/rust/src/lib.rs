@@ -36,6 +36,7 @@
 mod builtin;
 mod call;
 mod diff;
+mod engine;
 mod ffi;
 mod line;
 mod listing;
@@ -45,9 +46,10 @@ mod refusal;
 mod value;
 
 pub use builtin::Builtin;
-pub use call::{fold, fold_in, fold_words, fold_words_in, Answer, Call, ANSWER_WORDS, CALL_WORDS};
+pub use call::{fold, fold_by, fold_in, fold_words, fold_words_by, fold_words_in, Answer, Call, ANSWER_WORDS, CALL_WORDS};
 pub use diff::{diff, first_difference, Difference, Differences, Kind};
-pub use line::{fold_line, fold_line_in, fold_line_into, fold_line_into_in, LONGEST_ANSWER};
+pub use engine::Engine;
+pub use line::{fold_line, fold_line_by, fold_line_in, fold_line_into, fold_line_into_by, fold_line_into_in, LONGEST_ANSWER};
 pub use listing::{sort_listing, sort_listing_into, LONGEST_LISTING, MOST_LINES};
 pub use loss::{f32_to_f16_told, Loss};
 pub use reading::Reading;

@@ -1,4 +1,4 @@
-use crate::{ffi, refusal::written, Reading, Refusal};
+use crate::{ffi, refusal::written, Engine, Reading, Refusal};
 
 /// No answer has more bytes.
 pub const LONGEST_ANSWER: usize = 311;
@@ -21,16 +21,33 @@ pub fn fold_line_into<'a>(line: &[u8], out: &'a mut [u8]) -> Result<&'a [u8], Re
 
 /// [`fold_line`] in a reading.
 pub fn fold_line_in(reading: Reading, line: &[u8]) -> Result<String, Refusal> {
+    fold_line_by(reading, Engine::Arithmetic, line)
+}
+
+/// [`fold_line`] in a reading, worked out by an engine.
+pub fn fold_line_by(reading: Reading, engine: Engine, line: &[u8]) -> Result<String, Refusal> {
     let mut out = [0; LONGEST_ANSWER];
-    let answer = fold_line_into_in(reading, line, &mut out)?;
+    let answer = fold_line_into_by(reading, engine, line, &mut out)?;
     Ok(String::from_utf8(answer.to_vec()).expect("an answer is ASCII"))
 }
 
 /// [`fold_line_into`] in a reading.
 #[inline]
 pub fn fold_line_into_in<'a>(reading: Reading, line: &[u8], out: &'a mut [u8]) -> Result<&'a [u8], Refusal> {
+    fold_line_into_by(reading, Engine::Arithmetic, line, out)
+}
+
+/// [`fold_line_into`] in a reading, worked out by an engine.
+#[inline]
+pub fn fold_line_into_by<'a>(
+    reading: Reading,
+    engine: Engine,
+    line: &[u8],
+    out: &'a mut [u8],
+) -> Result<&'a [u8], Refusal> {
+    let (reading, engine) = (reading.number(), engine.number());
     // SAFETY: each pointer and length are those of a slice, and a shared and an exclusive one do not overlap.
     let answer =
-        unsafe { ffi::chanrelout_line_in(reading.number(), line.as_ptr(), line.len(), out.as_mut_ptr(), out.len()) };
+        unsafe { ffi::chanrelout_line_by(reading, engine, line.as_ptr(), line.len(), out.as_mut_ptr(), out.len()) };
     Ok(&out[..written(answer)?])
 }

@@ -3,7 +3,7 @@
 mod common;
 
 use chanrelout::{
-    fold_line, fold_line_in, fold_line_into, Answer, Builtin, Call, Reading, Refusal, Type, Value, LONGEST_ANSWER,
+    fold_line, fold_line_by, fold_line_in, fold_line_into, Answer, Builtin, Call, Engine, Reading, Refusal, Type, Value, LONGEST_ANSWER,
 };
 use common::{printed_by, split, stored};
 
@@ -64,7 +64,9 @@ fn lines_are_answered_as_by_foldtext() {
     for (line, answer) in answered_by("foldtext") {
         let ours = printed(fold_line_in(Reading::Text, &line));
         assert_eq!(ours.as_bytes(), answer, "{}", String::from_utf8_lossy(&line));
+        assert_eq!(printed(fold_line_by(Reading::Text, Engine::Tables, &line)), ours);
         let crates = printed(fold_line_in(Reading::Crate, &line));
+        assert_eq!(printed(fold_line_by(Reading::Crate, Engine::Tables, &line)), crates);
         assert_eq!(crates, printed(fold_line(&line)));
         others += usize::from(crates != ours);
         if let Some(call) = call_of(&String::from_utf8_lossy(&line)) {
