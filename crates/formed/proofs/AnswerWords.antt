@@ -28,11 +28,11 @@ module _ (R : Reading) (w : List ℕ) where
   held = record { a = lanes-16 w 3; b = lanes-16 w 20; c = lanes-16 w 37 }
 
   module _ (room : ℕ) (h : 35 ≤ room) where
-    in-room : foldIn R (callOf w) .refusal ≡ 0 → (refusalIn R room w ≡ 0) × (writtenIn R room w ≡ answerOf R w)
+    pub in-room : foldIn R (callOf w) .refusal ≡ 0 → (refusalIn R room w ≡ 0) × (writtenIn R room w ≡ answerOf R w)
     unfolding refusalIn writtenIn
     in-room e = given-room room 35 (foldIn R (callOf w) .refusal) (answerOf R w) e h
 
-    told : refusalIn R room w ≡ foldIn R (callOf w) .refusal
+    pub told : refusalIn R room w ≡ foldIn R (callOf w) .refusal
     unfolding refusalIn writtenIn
     told =
         let refusal = foldIn R (callOf w) .refusal in
@@ -42,10 +42,10 @@ module _ (R : Reading) (w : List ℕ) where
     formed : AnswerFormed (foldIn R (callOf w))
     formed = answers-formed R (callOf w) held e
 
-    first-16 : length (foldIn R (callOf w) .first .lanes) ≡ 16
+    pub first-16 : length (foldIn R (callOf w) .first .lanes) ≡ 16
     first-16 = formed .first .lanes
 
-    second-16 : length (foldIn R (callOf w) .second .lanes) ≡ 16
+    pub second-16 : length (foldIn R (callOf w) .second .lanes) ≡ 16
     unfolding emptyValue
     second-16 = ⊎-elim (λ none. rw none) (λ pair. pair .second .lanes) (formed .second)
 

@@ -1,0 +1,3 @@
+pub mod One
+pub mod All
+pub mod Laws

@@ -1,0 +1,3 @@
+pub mod Materials
+pub mod Words
+pub mod Laws
