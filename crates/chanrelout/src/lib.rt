@@ -13,6 +13,7 @@ ghost use Rattle.buffers.specs.Memory.{put};
 ghost use Rattle.lines.specs.Line as text;
 ghost use Rattle.words.specs.Words.{valueAt};
 ghost use Rattle.builtins.specs.Words.{refusalIn, writtenIn};
+ghost use Rattle.materials.specs.Words.{refusalOfAll, writtenOfAll};
 ghost use Rattle.reading.specs.Into.{readIn, wordsIn};
 ghost use Rattle.writing.specs.Into.{writtenAs, textIn};
 ghost use Rattle.order.specs.Order as order;
@@ -90,6 +91,34 @@ pub extern "C" fn chanrelout_call_in(reading: u64, call: &[u64], out: &mut [u64]
         × (now (out .exit) ≡ put (now (out .entry)) 0 (cond (isReading reading) (writtenIn (readingAt reading) (length (now (out .entry))) (now (call .entry))) [])) ⌝ }
 {
     chanrelout_call_by(reading, 0, call, out)
+}
+
+// Folds a whole material, calls of 54 words one after another, into answers of 36 words: those of one answer and behind them its refusal's number. Answers 8 where there is no
+// room for all of them, and 0 otherwise; a call that is refused does not end the work.
+#[no_mangle]
+pub extern "C" fn chanrelout_calls_by(
+    reading: u64,
+    engine: u64,
+    calls: &[u64],
+    out: &mut [u64],
+) -> u8
+    ensures { λ r. ⌜ (r ≡ cond (isReading reading && isEngine engine) (refusalOfAll (length (now (out .entry))) (now (calls .entry))) 1)
+        × (now (out .exit) ≡ put (now (out .entry)) 0 (cond (isReading reading && isEngine engine) (writtenOfAll (readingAt reading) (length (now (out .entry))) (now (calls .entry))) [])) ⌝ }
+{
+    if are_choices(reading, engine) {
+        let chosen = engines::engine_at(engine);
+        return materials::fold_words(readings::reading_at(reading), chosen, calls, out);
+    }
+    NO_SUCH_CHOICE
+}
+
+// In the crate's reading, by arithmetic.
+#[no_mangle]
+pub extern "C" fn chanrelout_calls(calls: &[u64], out: &mut [u64]) -> u8
+    ensures { λ r. ⌜ (r ≡ refusalOfAll (length (now (out .entry))) (now (calls .entry)))
+        × (now (out .exit) ≡ put (now (out .entry)) 0 (writtenOfAll Reading.Crate (length (now (out .entry))) (now (calls .entry)))) ⌝ }
+{
+    chanrelout_calls_by(0, 0, calls, out)
 }
 
 // Reads a value's text into its 17 words. Answers the refusal's number times 2^32, and the place of a fault, counted from 1.
