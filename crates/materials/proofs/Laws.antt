@@ -30,7 +30,7 @@ pub joins : (r : Reading) → Joins r
 joins r [] b = refl
 joins r (c ∷ a) b = rw (joins r a b)
 
-in-room : (r : Reading) (calls : List Call) (found : List Answer) → length calls ≤ length found → resultsOf r calls found ≡ foldedAll r calls ++ drop (length calls) found
+pub in-room : (r : Reading) (calls : List Call) (found : List Answer) → length calls ≤ length found → resultsOf r calls found ≡ foldedAll r calls ++ drop (length calls) found
 unfolding resultsOf
 in-room r calls found h = rw (le-ltb (length found) (length calls) h)
 
