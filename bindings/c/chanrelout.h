@@ -174,6 +174,39 @@ static inline enum chanrelout_refusal chanrelout_fold_by(enum chanrelout_reading
                                                        sizeof *call / 8, (uint64_t *)out, sizeof *out / 8);
 }
 
+/* ---- a whole material: calls one after another, in one call
+
+   Result k is what the single call gives for call k. A call that is refused has its refusal's number, empty values and no
+   loss in its result, and the work goes on after it. */
+
+struct chanrelout_result {
+    struct chanrelout_answer answer;
+    uint64_t refusal; /* a number of enum chanrelout_refusal */
+};
+
+/* calls     the words of calls, 54 each, one after another. A last part of fewer words is a call too, read as
+             chanrelout_call reads one of which words are left out.
+   calls_len how many words.
+   out       where the results are written, 36 words each; words past the last stay as they were. It must not overlap
+             calls.
+   out_len   how many words may be written there.
+   Answers CHANRELOUT_NO_ROOM where out has no room for all results: no call is looked at then, and nothing is written;
+   else CHANRELOUT_ANSWERED, whatever each call gives. */
+
+uint8_t chanrelout_calls(const uint64_t *calls, size_t calls_len, uint64_t *out, size_t out_len);
+
+/* The same in a reading and by an engine, which are chosen once for all calls. */
+uint8_t chanrelout_calls_by(uint64_t reading, uint64_t engine, const uint64_t *calls, size_t calls_len, uint64_t *out,
+                            size_t out_len);
+
+/* The same for records: count calls, and room for so many results. */
+static inline enum chanrelout_refusal chanrelout_fold_all(const struct chanrelout_call *calls, size_t count,
+                                                          struct chanrelout_result *out, size_t room)
+{
+    return (enum chanrelout_refusal)chanrelout_calls((const uint64_t *)calls, count * (sizeof *calls / 8),
+                                                     (uint64_t *)out, room * (sizeof *out / 8));
+}
+
 /* Types. A vector's number is CHANRELOUT_VECTOR of its lanes (2 to 4) and its scalar, a matrix's CHANRELOUT_MATRIX of
    its columns and rows (2 to 4) and of CHANRELOUT_F32 or CHANRELOUT_F16. */
 enum chanrelout_type {

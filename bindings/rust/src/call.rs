@@ -35,11 +35,26 @@ pub fn fold_words_by(reading: Reading, engine: Engine, call: &[u64], out: &mut [
     Refusal::from_number(number).map_or(Ok(()), Err)
 }
 
+/// How many words a result has: an answer's, and its refusal's number.
+const RESULT_WORDS: usize = ANSWER_WORDS + 1;
+
+/// A whole material in one call, on words: calls of [`CALL_WORDS`] one after another, and for each the words of its
+/// answer and its refusal's number, 0 where it is answered. A call that is refused does not end the work. Nothing is
+/// written, and the whole refused by [`Refusal::NoRoom`], where `out` has no room for all results.
+#[inline]
+pub fn fold_all_words_by(reading: Reading, engine: Engine, calls: &[u64], out: &mut [u64]) -> Result<(), Refusal> {
+    let (reading, engine) = (reading.number(), engine.number());
+    // SAFETY: each pointer and length are those of a slice, and a shared and an exclusive one do not overlap.
+    let number =
+        unsafe { ffi::chanrelout_calls_by(reading, engine, calls.as_ptr(), calls.len(), out.as_mut_ptr(), out.len()) };
+    Refusal::from_number(number).map_or(Ok(()), Err)
+}
+
 /// A call, in the words that the library reads: builtin, count of arguments, bitcast's type, then the arguments.
 #[derive(Clone, Copy, Debug, PartialEq, Eq)]
+#[repr(transparent)]
 pub struct Call {
     words: [u64; CALL_WORDS],
-    len: usize,
 }
 
 /// What a call gives. Only frexp has a second value, the exponent, and only pack2x16float loses something.
@@ -70,17 +85,16 @@ impl Call {
         words[0] = builtin.number();
         words[1] = count as u64;
         words[2] = target.map_or(0, Type::number);
-        let slots = arguments.len().min(SLOTS);
         for (slot, argument) in words[HEAD_WORDS..].chunks_exact_mut(VALUE_WORDS).zip(arguments) {
             slot.copy_from_slice(&argument.words());
         }
-        Call { words, len: HEAD_WORDS + slots * VALUE_WORDS }
+        Call { words }
     }
 
-    /// Its words, up to the last argument's.
+    /// Its words.
     #[inline]
     pub fn words(&self) -> &[u64] {
-        &self.words[..self.len]
+        &self.words
     }
 
     /// What the call gives.
@@ -135,9 +149,84 @@ pub fn fold_by(
     Call::new(builtin, arguments).fold_by(reading, engine)
 }
 
+/// A whole material in one call: result k is what `calls[k].fold()` gives. Results past the last call stay as they were.
+///
+/// # Errors
+///
+/// [`Refusal::NoRoom`] where there are fewer results than calls; all results stay as they were then.
+pub fn fold_all(calls: &[Call], results: &mut [Result<Answer, Refusal>]) -> Result<(), Refusal> {
+    fold_all_by(Reading::Crate, Engine::Arithmetic, calls, results)
+}
+
+/// The same in a reading and by an engine, which are chosen once for all calls.
+///
+/// # Errors
+///
+/// As [`fold_all`].
+pub fn fold_all_by(
+    reading: Reading,
+    engine: Engine,
+    calls: &[Call],
+    results: &mut [Result<Answer, Refusal>],
+) -> Result<(), Refusal> {
+    if results.len() < calls.len() {
+        return Err(Refusal::NoRoom);
+    }
+    let mut out = [0; AT_A_TIME * RESULT_WORDS];
+    for (calls, results) in calls.chunks(AT_A_TIME).zip(results.chunks_mut(AT_A_TIME)) {
+        let out = &mut out[..calls.len() * RESULT_WORDS];
+        fold_all_words_by(reading, engine, words_of(calls), out).expect("there is room for all results");
+        for (words, result) in out.chunks_exact(RESULT_WORDS).zip(results) {
+            let (answer, refusal) = words.split_at(ANSWER_WORDS);
+            *result = match Refusal::from_number(refusal[0] as u8) {
+                None => Ok(Answer::of_words(answer.try_into().expect("an answer's words"))),
+                Some(refusal) => Err(refusal),
+            };
+        }
+    }
+    Ok(())
+}
+
+/// So many results' words, some nine kilobytes, are asked of the library at once.
+const AT_A_TIME: usize = 32;
+
+/// The words of calls, one after another, where they stand.
+fn words_of(calls: &[Call]) -> &[u64] {
+    // SAFETY: a call is laid out as its array of words, so that a slice of calls is so many words one after another.
+    unsafe { std::slice::from_raw_parts(calls.as_ptr().cast(), calls.len() * CALL_WORDS) }
+}
+
 #[cfg(test)]
 mod tests {
     use super::*;
+    use crate::Scalar;
+
+    #[test]
+    fn a_material_gives_what_its_calls_give() {
+        let one = Value::from(1.0f32);
+        let mut calls: Vec<Call> = (0..100)
+            .map(|i| match i % 4 {
+                0 => Call::new(Builtin::Pack2x16float, &[Value::from([0.1f32, i as f32 * 1000.0])]),
+                1 => Call::new(Builtin::Min, &[one, Value::from(i)]),
+                2 => Call::new(Builtin::Frexp, &[Value::from(i as f32)]),
+                _ => Call::bitcast(Type::Scalar(Scalar::U32), Value::from(i as f32)),
+            })
+            .collect();
+        for reading in [Reading::Crate, Reading::Text] {
+            for engine in [Engine::Arithmetic, Engine::Tables] {
+                let mut results = vec![Err(Refusal::LineTooLong); 103];
+                assert_eq!(fold_all_by(reading, engine, &calls, &mut results[..99]), Err(Refusal::NoRoom));
+                assert!(results.iter().all(|result| *result == Err(Refusal::LineTooLong)));
+                assert_eq!(fold_all_by(reading, engine, &calls, &mut results), Ok(()));
+                let alone: Vec<_> = calls.iter().map(|call| call.fold_by(reading, engine)).collect();
+                assert_eq!(results[..100], alone);
+                assert!(results[100..].iter().all(|result| *result == Err(Refusal::LineTooLong)));
+                assert!(alone.contains(&Err(Refusal::TypesDiffer)));
+            }
+            calls.reverse();
+        }
+        assert_eq!(fold_all(&[], &mut []), Ok(()));
+    }
 
     #[test]
     fn readings_differ_in_six_packers() {
@@ -209,9 +298,9 @@ mod tests {
     #[test]
     fn broken_words_are_refused() {
         let call = Call::new(Builtin::Max, &[Value::from([1, 2, 3]), Value::from([3, 2, 1])]);
-        let words = call.words();
+        let words = &call.words()[..HEAD_WORDS + 2 * VALUE_WORDS];
         assert_eq!(refused(words, ANSWER_WORDS), None);
-        assert_eq!(refused(&call.words, 40), None);
+        assert_eq!(refused(call.words(), 40), None);
         assert_eq!(refused(words, 34), Some(Refusal::NoRoom));
         assert_eq!(refused(&[], ANSWER_WORDS), Some(Refusal::UnknownBuiltin));
         for len in 0..words.len() {

@@ -20,6 +20,14 @@ extern "C" {
         out: *mut u64,
         out_len: usize,
     ) -> u8;
+    pub fn chanrelout_calls_by(
+        reading: u64,
+        engine: u64,
+        calls: *const u64,
+        calls_len: usize,
+        out: *mut u64,
+        out_len: usize,
+    ) -> u8;
     pub fn chanrelout_read_value(text: *const u8, text_len: usize, value: *mut u64, value_len: usize) -> u64;
     pub fn chanrelout_write_value(value: *const u64, value_len: usize, out: *mut u8, out_len: usize) -> u64;
     pub fn chanrelout_compare(a: *const u64, a_len: usize, b: *const u64, b_len: usize) -> u8;

@@ -46,7 +46,7 @@ mod refusal;
 mod value;
 
 pub use builtin::Builtin;
-pub use call::{fold, fold_by, fold_in, fold_words, fold_words_by, fold_words_in, Answer, Call, ANSWER_WORDS, CALL_WORDS};
+pub use call::{fold, fold_all, fold_all_by, fold_all_words_by, fold_by, fold_in, fold_words, fold_words_by, fold_words_in, Answer, Call, ANSWER_WORDS, CALL_WORDS};
 pub use diff::{diff, first_difference, Difference, Differences, Kind};
 pub use engine::Engine;
 pub use line::{fold_line, fold_line_by, fold_line_in, fold_line_into, fold_line_into_by, fold_line_into_in, LONGEST_ANSWER};
