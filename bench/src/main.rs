@@ -7,7 +7,7 @@
 
 mod child;
 
-use chanrelout::{fold_line, fold_words, fold_words_by, Builtin, Engine, Reading, Refusal, ANSWER_WORDS, LONGEST_LISTING, MOST_LINES};
+use chanrelout::{fold_all, fold_all_words_by, fold_line, fold_words, fold_words_by, Builtin, Engine, Reading, Refusal, ANSWER_WORDS, CALL_WORDS, LONGEST_LISTING, MOST_LINES};
 use std::{
     cmp::Ordering,
     env, fs,
@@ -25,9 +25,11 @@ fn main() {
     };
     let text = fs::read(lines).expect("the file of lines");
     rustlines::quiet_panics();
-    println!("{:<24} {:>14} {:>14} {:>8}", "", "ours", "the Rust", "ratio");
+    println!("{:<26} {:>14} {:>14} {:>8}", "", "ours", "the Rust", "ratio");
     part("record calls");
     records(&text);
+    part("materials");
+    materials(&text);
     part("lines");
     programs(&text, foldlines, rustlines, emulator);
     part("abs and the roundings");
@@ -67,7 +69,7 @@ fn timed(work: impl FnOnce()) -> Duration {
 fn report(what: &str, count: usize, (ours, theirs): (Duration, Duration)) {
     let rate = |time: Duration| count as f64 / time.as_secs_f64() / 1e6;
     let ratio = theirs.as_secs_f64() / ours.as_secs_f64();
-    println!("{:<24} {:>10.2} M/s {:>10.2} M/s {:>8.2}", what, rate(ours), rate(theirs), ratio);
+    println!("{:<26} {:>10.2} M/s {:>10.2} M/s {:>8.2}", what, rate(ours), rate(theirs), ratio);
 }
 
 // ---- records: the calls that both sides answer
@@ -81,9 +83,19 @@ const MANY: usize = 65536;
 const TURN: usize = 4 * MANY;
 
 fn records(text: &[u8]) {
+    let (ours, theirs) = answered(text, MANY);
+    for (what, most) in [("record calls", FEW), ("record calls, memory", MANY)] {
+        let count = ours.len().min(most);
+        let rounds = TURN / count;
+        report(what, rounds * count, folded(fold_words, &ours[..count], &theirs[..count], rounds));
+    }
+}
+
+/// The first calls of a text that both sides answer, so many at most.
+fn answered(text: &[u8], most: usize) -> (Vec<chanrelout::Call>, Vec<rustlines::Call>) {
     let (mut ours, mut theirs) = (Vec::new(), Vec::new());
     for line in text.split(|&byte| byte == b'\n') {
-        if ours.len() == MANY {
+        if ours.len() == most {
             break;
         }
         let (call, other) = match (call_of(line), rustlines::read_call(line)) {
@@ -95,11 +107,53 @@ fn records(text: &[u8]) {
             theirs.push(other);
         }
     }
-    for (what, most) in [("record calls", FEW), ("record calls, memory", MANY)] {
-        let count = ours.len().min(most);
-        let rounds = TURN / count;
-        report(what, rounds * count, folded(fold_words, &ours[..count], &theirs[..count], rounds));
-    }
+    (ours, theirs)
+}
+
+// ---- a material of a hundred calls: one call for all, on words and on records, and a hundred single ones
+
+fn materials(text: &[u8]) {
+    const CALLS: usize = 100;
+    const ROUNDS: usize = TURN / CALLS;
+    let (ours, theirs) = answered(text, CALLS);
+    let count = ROUNDS * ours.len();
+    let words: Vec<u64> = ours.iter().flat_map(|call| call.words()).copied().collect();
+    assert_eq!(words.len(), ours.len() * CALL_WORDS);
+    let mut out = vec![0; ours.len() * (ANSWER_WORDS + 1)];
+    let mut results = vec![Err(Refusal::NoRoom); ours.len()];
+    let whole = || {
+        timed(|| {
+            for _ in 0..ROUNDS {
+                black_box(fold_all_words_by(Reading::Crate, Engine::Arithmetic, black_box(&words), &mut out))
+                    .expect("room for all");
+            }
+        })
+    };
+    let mut their_turn = || {
+        timed(|| {
+            for call in (0..ROUNDS).flat_map(|_| &theirs) {
+                drop(black_box(black_box(call).fold()));
+            }
+        })
+    };
+    report("material, words", count, in_turns(whole, &mut their_turn));
+    report("material, single words", count, folded(fold_words, &ours, &theirs, ROUNDS));
+    let records = || {
+        timed(|| {
+            for _ in 0..ROUNDS {
+                black_box(fold_all(black_box(&ours), &mut results)).expect("room for all");
+            }
+        })
+    };
+    report("material, records", count, in_turns(records, &mut their_turn));
+    let single = || {
+        timed(|| {
+            for call in (0..ROUNDS).flat_map(|_| &ours) {
+                black_box(black_box(call).fold()).expect("an answer");
+            }
+        })
+    };
+    report("material, single records", count, in_turns(single, &mut their_turn));
 }
 
 /// The same calls by both sides, so many times over.
