@@ -1,4 +1,4 @@
--- The types of the two functions: a reading and an engine, a call and an answer, their slices, and the machine value of each. Definitions only.
+-- The types of which the two functions' walks speak. Definitions only.
 use mir.Syntax.{Ty, named, imm, mut, w8, w64, tyInt, tyRef}
 use mir.Val.{Val}
 use denote.RattleType.{RattleType}
@@ -19,6 +19,7 @@ use Rattle.calls.proofs.Call.Laws as T′
 use Rattle.builtins.proofs.Answer as U·
 use Rattle.builtins.proofs.Answer.Laws as U′
 
+-- a reading, an engine, a call and an answer
 abbrev pub B : RattleType
 B = B·.the-row
 
@@ -31,6 +32,7 @@ S = T·.the-row
 abbrev pub R : RattleType
 R = U·.the-row
 
+-- MIR's types of a refusal, of a length, and of the two slices
 abbrev pub byte : Ty
 byte = tyInt w8
 
@@ -43,6 +45,7 @@ slice₁ = sliceTy (tyRef (named 0) imm (pointee (S .written)))
 abbrev pub slice₂ : Ty
 slice₂ = sliceTy (tyRef (named 1) mut (pointee (R .written)))
 
+-- machine values
 abbrev pub valB : Reading → Val
 valB = EL.val B·.the-type B′.the-laws
 

@@ -81,12 +81,12 @@ use Rattle.batches.proofs.fold_all_in.Statement as stated
 use Rattle.batches.proofs.fold_all_in.Code as code
 use Rattle.batches.proofs.fold_all_in.Code.Mir as piece
 
--- what stands past the last call and the last result, where nobody looks
-none : Call
-none = callOf []
+-- what would be read past the last call and past the last result
+noCall : Call
+noCall = callOf []
 
-noneA : Answer
-noneA = refused 0
+noAnswer : Answer
+noAnswer = refused 0
 
 -- the reading and the engine are not looked at again at exit
 abbrev stayed : Stays (all.ended .signature .params) (all.ended .kept)
@@ -158,8 +158,8 @@ module _ {M : Type 1} (𝓤 : URA M) (H : Heap 𝓤) (A : Atoms 𝓤) (W : Given
         ∷ ‵ (froom word l₉ 0) ∷ ‵ (fdies word l₉) ∷ ‵ (fat fullShare tyBool l₈ 0 (vbool (ltb (length xs) n))) ∷ ‵ (fdies tyBool l₈)
         ∷ ‵ (fat fullShare word l₇ 0 (vint w64 n)) ∷ ‵ (fdies word l₇) ∷ ‵ (fat fullShare word l₆ 0 (vint w64 (length xs))) ∷ ‵ (fdies word l₆)
         ∷ ‵ (froom word l₅ 0) ∷ ‵ (fdies word l₅) ∷ ‵ (fat fullShare slice₂ l₄ 0 (sliceVal (b₂, o₂) (length xs))) ∷ ‵ (fdies slice₂ l₄)
-        ∷ ‵ (fat fullShare slice₁ l₃ 0 (sliceVal (b₁, o₁) n)) ∷ ‵ (fdies slice₁ l₃) ∷ ‵ (fat fullShare ρ₂ l₂ 0 (v₂)) ∷ ‵ (fdies ρ₂ l₂)
-        ∷ ‵ (fat fullShare ρ₁ l₁ 0 (v₁)) ∷ ‵ (fdies ρ₁ l₁) ∷ ‵ (froom byte l₀ 0) ∷ ‵ (fdies byte l₀)
+        ∷ ‵ (fat fullShare slice₁ l₃ 0 (sliceVal (b₁, o₁) n)) ∷ ‵ (fdies slice₁ l₃) ∷ ‵ (fat fullShare ρ₂ l₂ 0 v₂) ∷ ‵ (fdies ρ₂ l₂)
+        ∷ ‵ (fat fullShare ρ₁ l₁ 0 v₁) ∷ ‵ (fdies ρ₁ l₁) ∷ ‵ (froom byte l₀ 0) ∷ ‵ (fdies byte l₀)
         ∷ (‵ (flft κ₁ q₁) ⊛ (‵ (flft κ₂ q₂) ⊛ ‵ ftrue)) ∷ ‵ (owns (B ∷ E ∷ ShrSlice (named 0) κ₁ S ∷ MutSlice (named 1) κ₂ R ∷ []) x at) ∷ []
 
   module _ (𝓣 : Tables 𝓤 H) (g₁ : Room S n) (g₂ : Room R (length xs)) (ρ₁ ρ₂ τ₁ τ₂ : Ty) (t₁ : Holds (hasTy ρ₁ (valB reading)) × WT (valB reading)) (t₂ : Holds (hasTy ρ₂ (valE engine)) × WT (valE engine)) (rest : Body) (Q : Val → SProp 𝓤) where
@@ -169,8 +169,9 @@ module _ {M : Type 1} (𝓤 : URA M) (H : Heap 𝓤) (A : Atoms 𝓤) (W : Given
     abbrev v₂ : Val
     v₂ = valE engine
 
-    abbrev gfun : Fn
-    gfun = record {
+    -- the function, over those types and over what follows the three statements
+    abbrev entry : Fn
+    entry = record {
       lifetimes = 2;
       outlives = [];
       params = 4;
@@ -180,10 +181,10 @@ module _ {M : Type 1} (𝓤 : URA M) (H : Heap 𝓤) (A : Atoms 𝓤) (W : Given
 
     enters : ((l₀ l₁ l₂ l₃ l₄ l₅ l₆ l₇ l₈ l₉ l₁₀ l₁₁ l₁₂ l₁₃ l₁₄ l₁₅ : ℕ) → ent 𝓤 (⋆ 𝓤 H A (Begin ρ₁ ρ₂ τ₁ τ₂ v₁ v₂ l₀ l₁ l₂ l₃ l₄ l₅ l₆ l₇ l₈ l₉ l₁₀ l₁₁ l₁₂ l₁₃ l₁₄ l₁₅))
         (Wp 𝓤 H (𝓣 .C) (𝓣 .Λ) (locals ρ₁ ρ₂ τ₁ τ₂ v₁ v₂ l₀ l₁ l₂ l₃ l₄ l₅ l₆ l₇ l₈ l₉ l₁₀ l₁₁ l₁₂ l₁₃ l₁₄ l₁₅) rest (atReturn 𝓤 H (locals ρ₁ ρ₂ τ₁ τ₂ v₁ v₂ l₀ l₁ l₂ l₃ l₄ l₅ l₆ l₇ l₈ l₉ l₁₀ l₁₁ l₁₂ l₁₃ l₁₄ l₁₅) Q)))
-        → ent 𝓤 (onEntry 𝓤 H A all.signature (κ₁, (κ₂, tt)) (q₁, (q₂, tt)) x at) (WpFn 𝓤 H (𝓣 .C) (𝓣 .Λ) gfun (v₁ ∷ v₂ ∷ sliceVal (b₁, o₁) n ∷ sliceVal (b₂, o₂) (length xs) ∷ []) Q)
+        → ent 𝓤 (onEntry 𝓤 H A all.signature (κ₁, (κ₂, tt)) (q₁, (q₂, tt)) x at) (WpFn 𝓤 H (𝓣 .C) (𝓣 .Λ) entry (v₁ ∷ v₂ ∷ sliceVal (b₁, o₁) n ∷ sliceVal (b₂, o₂) (length xs) ∷ []) Q)
     enters k =
         qed W ((‵ (flft κ₁ q₁) ⊛ (‵ (flft κ₂ q₂) ⊛ ‵ ftrue)) ∷ ‵ (owns (B ∷ E ∷ ShrSlice (named 0) κ₁ S ∷ MutSlice (named 1) κ₂ R ∷ []) x at) ∷ []) ∵
-        enter ! (𝓣 .C) (𝓣 .Λ) gfun (v₁ ∷ v₂ ∷ sliceVal (b₁, o₁) n ∷ sliceVal (b₂, o₂) (length xs) ∷ []) _ $
+        enter ! (𝓣 .C) (𝓣 .Λ) entry (v₁ ∷ v₂ ∷ sliceVal (b₁, o₁) n ∷ sliceVal (b₂, o₂) (length xs) ∷ []) _ $
         alloc1 ! (λ l₀. alloc1 ! (λ l₁. alloc1 ! (λ l₂. alloc1 ! (λ l₃. alloc1 ! (λ l₄. alloc1 ! (λ l₅. alloc1 ! (λ l₆. alloc1 ! (λ l₇. alloc1 ! (λ l₈. alloc1 ! (λ l₉. alloc1 ! (λ l₁₀. alloc1 ! (λ l₁₁. alloc1 ! (λ l₁₂. alloc1 ! (λ l₁₃. alloc1 ! (λ l₁₄. alloc1 ! (λ l₁₅. alloc0 ! $ params1 ! $
         pass1 ! (init ! 28 refl t₁) $ pass1 ! (init ! 26 refl t₂) $ pass1 ! (init ! 24 refl (tt, (tt, (record { fits = g₁ .0 }, tt)))) $ pass1 ! (init ! 22 refl (tt, (tt, (record { fits = g₂ .0 }, tt)))) $ pass0 ! $
         assigns ! (of-opd ! (load ! (from ! (fld ! refl (stop !))) (look-in ! 22 (sub ! 1 refl (whole !))))) (from ! (stop !)) (init ! 18 refl (tt, record { fits = g₂ .0 })) $
@@ -222,9 +223,9 @@ module _ {M : Type 1} (𝓤 : URA M) (H : Heap 𝓤) (A : Atoms 𝓤) (W : Given
         move ! (4 ∷ []) $ split ! $ move ! (1 ∷ []) $ split ! $
         keep ! (3 ∷ 4 ∷ 0 ∷ 2 ∷ 6 ∷ []) $ by ! (exits 8 xs (lit< tt) (rw t) (lists.as-found reading ys xs t) g₂ refl)) (λ z. absurd z)
 
-    module _ (short : ltb (length xs) n ≡ false) where
+    module _ (enough : ltb (length xs) n ≡ false) where
       fit : n ≤ length xs
-      fit = ltb-false (length xs) n short
+      fit = ltb-false (length xs) n enough
 
       abbrev Shr : Item 𝓤
       Shr = ‵ (fshr-bor κ₁ (λ s. arr-parts (shares S) n .part s ys b₁ o₁))
@@ -268,11 +269,11 @@ module _ {M : Type 1} (𝓤 : URA M) (H : Heap 𝓤) (A : Atoms 𝓤) (W : Given
           rewrite ! 5 (λ (p : ℕ). ‵ (fat fullShare tyPtr l₁₂ 0 (vptr b₁ p))) (sym (place-is 432 o₁ i)) refl $
           -- the call is read
           move ! (16 ∷ 15 ∷ []) $
-          looks-slice ! tt S (Is S) (shows 𝓤 H A S) (LL.vals T·.the-type T′.the-laws) (LL.tells T·.the-type T′.the-laws) (LL.copy T·.the-type T′.the-copy 𝓤 H A W) ys b₁ o₁ (λ q′. elem-out ! S (Is S) (shows 𝓤 H A S) (LL.vals T·.the-type T′.the-laws) (LL.tells T·.the-type T′.the-laws) q′ ys i none b₁ o₁ small (λ g.
+          looks-slice ! tt S (Is S) (shows 𝓤 H A S) (LL.vals T·.the-type T′.the-laws) (LL.tells T·.the-type T′.the-laws) (LL.copy T·.the-type T′.the-copy 𝓤 H A W) ys b₁ o₁ (λ q′. elem-out ! S (Is S) (shows 𝓤 H A S) (LL.vals T·.the-type T′.the-laws) (LL.tells T·.the-type T′.the-laws) q′ ys i noCall b₁ o₁ small (λ g.
           use1 W (‵ (fat q′ T′.mir b₁ (place 432 o₁ i) (valC c))) (W .laws .raw-at q′ T′.mir b₁ (place 432 o₁ i) (valC c)) $
           assigns ! (of-opd ! (load ! (from ! (hop ! (look ! 10 refl) (stop !))) (look ! 0 refl))) (from ! (stop !)) (init ! 11 refl (LL.lawful T·.the-type T′.the-laws 𝓤 H A W .typed c _ g .0)) $
           use1 W (‵ (cellAt q′ (S .mir) (valC c ∷ []) b₁ (place 432 o₁ i))) (W .laws .at-raw q′ T′.mir b₁ (place 432 o₁ i) (valC c)) $
-          elem-back ! S q′ ys i none (valC c ∷ []) b₁ o₁ small $ shuts-slice ! tt S q′ ys b₁ o₁ $
+          elem-back ! S q′ ys i noCall (valC c ∷ []) b₁ o₁ small $ shuts-slice ! tt S q′ ys b₁ o₁ $
           -- [the token; the fractured borrow; the row; _5; …]: the single call
           owned ! S (Is S) (LL.makes T·.the-type T′.the-plain 𝓤 H A) c _ g $ nothing ! $ move ! (1 ∷ 0 ∷ []) $ fjoin ! $
           owned ! E (Is E) (EL.makes E·.the-type E′.the-plain 𝓤 H A) engine _ isE $ fjoin ! $ owned ! B (Is B) (EL.makes B·.the-type B′.the-plain 𝓤 H A) reading _ isB $ fjoin ! $
@@ -288,19 +289,19 @@ module _ {M : Type 1} (𝓤 : URA M) (H : Heap 𝓤) (A : Atoms 𝓤) (W : Given
           assigns ! (bin ! (load ! (from ! (fld ! refl (stop !))) (look-in ! 12 (sub ! 0 refl (whole !)))) (load ! (from ! (stop !)) (look ! 9 refl)) tt) (from ! (stop !)) (init ! 10 refl (tt, tt)) $
           rewrite ! 10 (λ (p : ℕ). ‵ (fat fullShare tyPtr l₁₅ 0 (vptr b₂ p))) (sym (place-is 288 o₂ i)) refl $
           move ! (2 ∷ []) $
-          elem-out ! R (Is R) (shows 𝓤 H A R) (LL.vals U·.the-type U′.the-laws) (LL.tells U·.the-type U′.the-laws) fullShare (cur i) i noneA b₂ o₂ inside (λ _.
-          use1 W (‵ (fat fullShare U′.mir b₂ (place 288 o₂ i) (val (getD (cur i) i noneA)))) (W .laws .raw-at fullShare U′.mir b₂ (place 288 o₂ i) (val (getD (cur i) i noneA))) $
+          elem-out ! R (Is R) (shows 𝓤 H A R) (LL.vals U·.the-type U′.the-laws) (LL.tells U·.the-type U′.the-laws) fullShare (cur i) i noAnswer b₂ o₂ inside (λ _.
+          use1 W (‵ (fat fullShare U′.mir b₂ (place 288 o₂ i) (val (getD (cur i) i noAnswer)))) (W .laws .raw-at fullShare U′.mir b₂ (place 288 o₂ i) (val (getD (cur i) i noAnswer))) $
           assigns ! (of-opd ! (load ! (from ! (stop !)) (look ! 8 refl))) (from ! (hop ! (look ! 12 refl) (stop !))) (store ! 0 refl (LL.lawful U·.the-type U′.the-laws 𝓤 H A W .typed (foldIn reading c) _ (good r u is e) .0)) $
           use1 W (‵ (cellAt fullShare (R .mir) (val (foldIn reading c) ∷ []) b₂ (place 288 o₂ i))) (W .laws .at-raw fullShare U′.mir b₂ (place 288 o₂ i) (val (foldIn reading c))) $
           move ! (1 ∷ []) $ drop ! $ owned ! R (Is R) (LL.makes U·.the-type U′.the-plain 𝓤 H A) (foldIn reading c) _ (good r u is e) $ move ! (1 ∷ 0 ∷ []) $ elem-put ! R fullShare (cur i) i (foldIn reading c) (val (foldIn reading c) ∷ []) b₂ o₂ inside $
-          rewrite ! 0 (λ (ws : List Answer). ‵ (row R fullShare ws b₂ o₂)) (lists.done-step (foldIn reading) ys xs i none small fit) refl $
+          rewrite ! 0 (λ (ws : List Answer). ‵ (row R fullShare ws b₂ o₂)) (lists.done-step (foldIn reading) ys xs i noCall small fit) refl $
           assigns-last ! (bin ! (load ! (from ! (stop !)) (look ! 3 refl)) (lit ! tt) (record { fits = next-fits })) (from ! (stop !)) (store ! 3 refl (tt, record { fits = next-fits })) $
           rewrite ! 3 (λ (j : ℕ). ‵ (fat fullShare word l₅ 0 (vint w64 j))) (add-one i) refl $
           forget ! 4 refl $ forget ! 5 refl $ forget ! 6 refl $ forget ! 7 refl $ forget ! 8 refl $ forget ! 9 refl $ forget ! 10 refl $
           keep ! (0 ∷ 3 ∷ 4 ∷ 5 ∷ 6 ∷ 7 ∷ 8 ∷ 9 ∷ 10 ∷ 11 ∷ 12 ∷ 13 ∷ 14 ∷ 15 ∷ 16 ∷ 1 ∷ 2 ∷ 17 ∷ 18 ∷ 19 ∷ 20 ∷ 21 ∷ 22 ∷ 23 ∷ 24 ∷ 25 ∷ 26 ∷ 27 ∷ 28 ∷ 29 ∷ 30 ∷ 31 ∷ 32 ∷ 33 ∷ 34 ∷ 35 ∷ 36 ∷ 37 ∷ 38 ∷ []) $ by ! k)))))))
         where
           c : Call
-          c = getD ys i none
+          c = getD ys i noCall
 
           scaled : i * 432 < 2 ^ 64
           scaled = omega (arith, g₁ .1, small)
@@ -331,7 +332,7 @@ module _ {M : Type 1} (𝓤 : URA M) (H : Heap 𝓤) (A : Atoms 𝓤) (W : Given
           -- [obs; the borrow; its token; _5; _9 … _15; _3; _4; _0; the calls' token; …]
           returns ! (look ! 13 refl) $ forget ! 3 refl $ forget ! 4 refl $ forget ! 5 refl $ forget ! 11 refl $ forget ! 12 refl $ forget ! 13 refl $ forget ! 33 refl $ forget ! 34 refl $
           move ! (13 ∷ 17 ∷ []) $ free1 ! $ move ! (31 ∷ 16 ∷ []) $ free1 ! $ move ! (30 ∷ 16 ∷ []) $ free1 ! $ move ! (11 ∷ 16 ∷ []) $ free1 ! $ move ! (11 ∷ 15 ∷ []) $ free1 ! $ move ! (3 ∷ 14 ∷ []) $ free1 ! $ move ! (23 ∷ 13 ∷ []) $ free1 ! $ move ! (22 ∷ 13 ∷ []) $ free1 ! $ move ! (21 ∷ 13 ∷ []) $ free1 ! $ move ! (3 ∷ 13 ∷ []) $ free1 ! $ move ! (3 ∷ 12 ∷ []) $ free1 ! $ move ! (3 ∷ 11 ∷ []) $ free1 ! $ move ! (3 ∷ 10 ∷ []) $ free1 ! $ move ! (3 ∷ 9 ∷ []) $ free1 ! $ move ! (3 ∷ 8 ∷ []) $ free1 ! $ move ! (3 ∷ 7 ∷ []) $ free1 ! $ free0 ! $
-          keep ! (0 ∷ 1 ∷ 2 ∷ 3 ∷ 5 ∷ []) $ by ! (exits 0 (cur n) (lit< tt) (rw short) (lists.all-done reading ys xs fit) g₂ len)
+          keep ! (0 ∷ 1 ∷ 2 ∷ 3 ∷ 5 ∷ []) $ by ! (exits 0 (cur n) (lit< tt) (rw enough) (lists.all-done reading ys xs fit) g₂ len)
         where
           len : length (cur n) ≡ length xs
           len = lists.done-length (foldIn reading) ys xs n (omega arith) fit
@@ -359,7 +360,7 @@ module _ {M : Type 1} (𝓤 : URA M) (H : Heap 𝓤) (A : Atoms 𝓤) (W : Given
       begins : ent 𝓤 (⋆ 𝓤 H A Start) Goal
       begins =
           qed W Start ∵ exec ! C Λ En piece.t-4 (atRet En Post) $
-          rewrite ! 14 (λ (z : Bool). ‵ (fat fullShare tyBool l₈ 0 (vbool z))) short refl $
+          rewrite ! 14 (λ (z : Bool). ‵ (fat fullShare tyBool l₈ 0 (vbool z))) enough refl $
           first ! $ branches ! (load ! (from ! (stop !)) (look ! 14 refl)) (λ z. absurd z) (λ _. skips ! $ exec ! C Λ En piece.t-5 (atRet En Post) $
           assigns ! (of-opd ! (lit ! tt)) (from ! (stop !)) (init ! 20 refl (tt, record { fits = lit< tt })) $
           forget ! 14 refl $ forget ! 16 refl $ forget ! 18 refl $
