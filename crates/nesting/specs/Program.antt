@@ -1,0 +1,62 @@
+-- How the program reads: an argument by its first word, and an end and a depth where the reader gives a tree. No statement of what is read rests on this. Definitions only.
+use Prim.Native.Nat.{ℕ, _+_, max}
+use mathlib.Core.Bool.{Bool, false, cond}
+use mathlib.Core.List.{List, [], _∷_}
+use mathlib.Core.Option.{Option, none, some}
+use lib.Dec.{leb, eqb}
+use lib.ListN.{length, drop, getD}
+use Rattle.buffers.specs.Text.{byte}
+use Rattle.nesting.specs.declared.Head.{Head}
+use Rattle.nesting.specs.declared.Head.the-variants as Head
+use Rattle.nesting.specs.declared.Step.{Step}
+use Rattle.nesting.specs.declared.Step.the-variants.{Read, Wrong}
+use Rattle.nesting.specs.Grammar.{isBitcast, Tree, Trees, text, texts, depth, depths}
+use Rattle.nesting.specs.Read.{word, opens, treeOf, treesOf}
+
+-- ---- what an argument starts with
+
+-- where the word from `at` on ends
+unfoldable pub wordEnd : List ℕ → ℕ → ℕ
+wordEnd s at = at + length (word (drop at s))
+
+abbrev pub spelt : ℕ → List ℕ → Head
+spelt end [] = Head.Bad
+spelt end (x ∷ w) = Head.Spelling end
+
+abbrev pub headBy : Bool → List ℕ → ℕ → ℕ → Head
+headBy first w end mark = cond (opens first w mark) (Head.Call end (isBitcast w)) (spelt end w)
+
+unfoldable pub headAt : Bool → List ℕ → ℕ → Head
+headAt first s at = headBy first (word (drop at s)) (wordEnd s at) (getD s (wordEnd s at) 0)
+
+-- ---- an argument from `at` on, and arguments after the mark at `at`
+
+abbrev pub treeStep : ℕ → Option Tree → Step
+treeStep at none = Wrong
+treeStep at (some t) = Read (at + length (text t)) (depth t)
+
+abbrev pub treesStep : ℕ → Option Trees → Step
+treesStep at none = Wrong
+treesStep at (some a) = Read (at + length (texts a)) (depths a + 1)
+
+unfoldable pub argumentAt : Bool → List ℕ → ℕ → Step
+argumentAt first s at = treeStep at (treeOf first (drop at s))
+
+unfoldable pub callAt : Bool → List ℕ → ℕ → Step
+callAt first s at = treesStep (at + 1) (treesOf first (drop (at + 1) s))
+
+abbrev pub deepened : Step → ℕ → Step
+deepened Wrong d = Wrong
+deepened (Read e k) d = Read e (max d k)
+
+-- a call's end and depth, where an argument of depth d ends at e
+unfoldable pub restAt : List ℕ → ℕ → ℕ → Step
+restAt s e d =
+    cond (eqb (getD s e 0) (byte ")")) (Read (e + 1) (d + 1))
+    (cond (eqb (getD s e 0) (byte ";")) (deepened (callAt false s e) (d + 1)) Wrong)
+
+-- ---- the number of a line of n bytes, by its call
+
+abbrev pub judgedOf : Step → ℕ → ℕ
+judgedOf Wrong n = 12
+judgedOf (Read e d) n = cond (eqb e n) (cond (leb d 8) 0 13) 12
