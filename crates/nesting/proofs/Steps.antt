@@ -1,4 +1,4 @@
--- The program's steps: an argument by its head, a call by its first argument, a line by its head. Each is the reader's own step, seen by its end and its depth. Assumes nothing.
+-- The program's own steps: a pass that gives ends and depths, and the number of a line by its head. Assumes nothing.
 use Prim.Native.Nat.{ℕ, _+_, _≤_, max}
 use mathlib.Core.Bool.{Bool, true, false, cond}
 use mathlib.Core.List.{List, [], _∷_}
@@ -7,34 +7,97 @@ use mathlib.Core.Path.{_≡_, refl, ap, sym, _∙_}
 use native.Mathlib.Omega.{arith}
 use lib.Dec.{leb, eqb}
 use lib.ListN.{length, drop, getD, length-append}
-use lib.Seq.{drop-drop, getD-drop}
 use borrow.Author.Tests.{eq-eqb, ne-eqb}
 use Rattle.nesting.specs.declared.Head.{Head}
 use Rattle.nesting.specs.declared.Head.the-variants as Head
 use Rattle.nesting.specs.declared.Step.{Step}
 use Rattle.nesting.specs.declared.Step.the-variants.{Read, Wrong}
 use Rattle.nesting.specs.Grammar.{Tree, Trees, spelling, call, last, next, text, texts, depth, depths}
-use Rattle.nesting.specs.Read.{aCall, andNext, argumentsBy, treeOf, treesOf, wholeCall, lineTree, refusalBy, refusalOf}
-use Rattle.nesting.specs.Program.{headAt, treeStep, treesStep, argumentAt, callAt, restAt, deepened, judgedOf}
-use Rattle.nesting.proofs.Fuel.{trees-unfold}
+use Rattle.nesting.specs.Read.{aCall, treeOf, treesOf, wholeCall, lineTree, refusalBy, refusalOf}
+use Rattle.nesting.specs.Program.{headAt, toldOf, argumentAt, callAt, restAt, deepened, judgedOf}
 use Rattle.nesting.proofs.Heads.{part, part-length, Within, head-within, treeBy, tree-by-head}
+use Rattle.nesting.proofs.Pass.{Pass, call-end}
+use Rattle.nesting.proofs.Pass as pass
 
--- ---- ends
+-- ---- ends and depths
 
--- of a call whose name ends at e, and of arguments whose first ends at e
-call-end : (at e : ℕ) (w : List ℕ) (a : Trees) → at + length w ≡ e → at + length (text (call w a)) ≡ e + 1 + length (texts a)
-unfolding text
-call-end at e w a q = omega (arith, length-append w (40 ∷ texts a))
+abbrev fromFirst : (ℕ → ℕ → Step) → Step → Step
+fromFirst k Wrong = Wrong
+fromFirst k (Read e d) = k d e
 
-last-end : (at e : ℕ) (t : Tree) → at + length (text t) ≡ e → at + length (texts (last t)) ≡ e + 1
-unfolding text
-last-end at e t q = omega (arith, length-append (text t) (41 ∷ []))
+call-deeper : (w : List ℕ) (a : Trees) (e : ℕ) → Read e (depths a + 1) ≡ Read e (depth (call w a))
+unfolding depth
+call-deeper w a e = refl
 
-next-end : (at e : ℕ) (t : Tree) (a : Trees) → at + length (text t) ≡ e → at + length (texts (next t a)) ≡ e + 1 + length (texts a)
-unfolding text
-next-end at e t a q = omega (arith, length-append (text t) (59 ∷ texts a))
+as-deep : (t : Tree) (e : ℕ) → Read e (depth t + 1) ≡ Read e (depths (last t) + 1)
+unfolding depth
+as-deep t e = refl
 
--- an argument is no deeper than it is long
+deeper : (t : Tree) (a : Trees) (e : ℕ) → Read e (max (depth t + 1) (depths a + 1)) ≡ Read e (depths (next t a) + 1)
+unfolding depth
+deeper t a e = let d : max (depth t + 1) (depths a + 1) ≡ max (depth t) (depths a) + 1 = omega arith in ap (Read e) d
+
+abbrev depthPass : Pass ℕ Step Step
+depthPass = record {
+  of = depth;
+  one = λ d e. Read e d;
+  wrong = Wrong;
+  all = λ a e. Read e (depths a + 1);
+  noArguments = Wrong;
+  called = λ w r. r;
+  called-none = λ w. refl;
+  called-all = call-deeper;
+  closed = λ d e. Read e (d + 1);
+  closed-last = as-deep;
+  joined = λ d r. deepened r (d + 1);
+  joined-none = λ d. refl;
+  joined-all = deeper;
+  from = fromFirst;
+  from-wrong = λ k. refl;
+  from-one = λ k d e. refl;
+}
+
+-- ---- an argument by its head, and a call by its first argument, that the program holds
+
+abbrev byHead : List ℕ → Head → Step
+byHead s Head.Bad = Wrong
+byHead s (Head.Spelling e) = Read e 0
+byHead s (Head.Call e b) = callAt b s e
+
+abbrev byFirst : List ℕ → Step → Step
+byFirst s Wrong = Wrong
+byFirst s (Read e d) = restAt s e d
+
+module _ (first : Bool) (s : List ℕ) (at : ℕ) where
+  pub head-room : (h k : Head) → h ≡ headAt first s at → h ≡ k → Within at (length s) k
+  head-room h k p q = rw (sym p ∙ q) at (head-within first s at)
+
+  pub argument-given : (h k : Head) → h ≡ headAt first s at → h ≡ k → byHead s k ≡ argumentAt first s at
+  unfolding argumentAt callAt depth
+  argument-given h Head.Bad p q = pass.argument-given depthPass s first at h Head.Bad p q
+  argument-given h (Head.Spelling e) p q = pass.argument-given depthPass s first at h (Head.Spelling e) p q
+  argument-given h (Head.Call e b) p q = pass.argument-given depthPass s first at h (Head.Call e b) p q
+
+  pub call-given : (r k : Step) → r ≡ argumentAt first s (at + 1) → r ≡ k → byFirst s k ≡ callAt first s at
+  unfolding argumentAt callAt restAt
+  call-given r Wrong p q = pass.call-given depthPass s first at r Wrong p q
+  call-given r (Read e d) p q = pass.call-given depthPass s first at r (Read e d) p q
+
+module _ (s : List ℕ) (e d c : ℕ) (h : c ≡ getD s e 0) where
+  pub rest-closed : c ≡ 41 → Read (e + 1) (d + 1) ≡ restAt s e d
+  unfolding restAt
+  rest-closed z = rw (← h, eq-eqb c 41 z)
+
+  pub rest-more : (c ≡ 41 → ⊥) → c ≡ 59 → (r : Step) → r ≡ callAt false s e → deepened r (d + 1) ≡ restAt s e d
+  unfolding restAt
+  rest-more n z r q = rw (q, ← h, ne-eqb c 41 n, eq-eqb c 59 z)
+
+  pub rest-wrong : (c ≡ 41 → ⊥) → (c ≡ 59 → ⊥) → Wrong ≡ restAt s e d
+  unfolding restAt
+  rest-wrong n m = rw (← h, ne-eqb c 41 n, ne-eqb c 59 m)
+
+-- ---- an argument ends where it began or later, and is no deeper than it is long
+
 mutual
   unfolding depth text
 
@@ -46,58 +109,27 @@ mutual
   depths-length (last t) = omega (arith, length-append (text t) (41 ∷ []), depth-length t)
   depths-length (next t a) = omega (arith, length-append (text t) (59 ∷ texts a), depth-length t, depths-length a)
 
--- ---- an argument by its head
+abbrev Ends : ℕ → Step → Type 0
+Ends at Wrong = Unit {0}
+Ends at (Read e d) = (at ≤ e) × (d ≤ e)
 
-abbrev pub byHead : List ℕ → Head → Step
-byHead s Head.Bad = Wrong
-byHead s (Head.Spelling e) = Read e 0
-byHead s (Head.Call e b) = callAt b s e
-
-called : (at e : ℕ) (w : List ℕ) (o : Option Trees) → at + length w ≡ e → treeStep at (aCall w o) ≡ treesStep (e + 1) o
-unfolding depth
-called at e w none q = refl
-called at e w (some a) q = ap (λ (n : ℕ). Read n (depths a + 1)) (call-end at e w a q)
-
-head-step : (s : List ℕ) (at : ℕ) (h : Head) → Within at (length s) h → treeStep at (treeBy s at h) ≡ byHead s h
-unfolding text depth callAt
-head-step s at Head.Bad i = refl
-head-step s at (Head.Spelling e) i = ap (λ (n : ℕ). Read n 0) (part-length s at e (omega (arith, i .0)) (i .1))
-head-step s at (Head.Call e b) i = called at e (part s at e) (treesOf b (drop (e + 1) s)) (part-length s at e (omega (arith, i .0)) (omega (arith, i .1)))
-
--- ---- a call by its first argument
-
-abbrev pub byFirst : List ℕ → Step → Step
-byFirst s Wrong = Wrong
-byFirst s (Read e d) = restAt s e d
-
-went-on : (at e : ℕ) (t : Tree) (o : Option Trees) → at + length (text t) ≡ e → treesStep at (andNext t o) ≡ deepened (treesStep (e + 1) o) (depth t + 1)
-unfolding depth
-went-on at e t none q = refl
-went-on at e t (some a) q =
-    let d : max (depth t) (depths a) + 1 ≡ max (depth t + 1) (depths a + 1) = omega arith in
-    ap (λ (n : ℕ). Read n (max (depth t) (depths a) + 1)) (next-end at e t a q) ∙ ap (Read (e + 1 + length (texts a))) d
-
-first-step : (s : List ℕ) (at : ℕ) (o : Option Tree) → treesStep at (argumentsBy treesOf (drop at s) o) ≡ byFirst s (treeStep at o)
-unfolding restAt callAt depth
-first-step s at none = refl
-first-step s at (some t) = rw (getD-drop at s (length (text t)) 0) (by (eqb (getD s (at + length (text t)) 0) 41) (eqb (getD s (at + length (text t)) 0) 59))
+pub argument-ends : (first : Bool) (s : List ℕ) (at e d : ℕ) → argumentAt first s at ≡ Read e d → (at ≤ e) × (d ≤ e)
+unfolding argumentAt
+argument-ends first s at e d q = rw q at (by (treeOf first (drop at s)))
   where
-    by : (u v : Bool) → treesStep at (cond u (some (last t)) (cond v (andNext t (treesOf false (drop (length (text t) + 1) (drop at s)))) none))
-        ≡ cond u (Read (at + length (text t) + 1) (depth t + 1)) (cond v (deepened (callAt false s (at + length (text t))) (depth t + 1)) Wrong)
-    by true v = ap (λ (n : ℕ). Read n (depth t + 1)) (last-end at (at + length (text t)) t refl)
-    by false true =
-        let e : at + (length (text t) + 1) ≡ at + length (text t) + 1 = omega arith in
-        rw (drop-drop (length (text t) + 1) at s, e) (went-on at (at + length (text t)) t (treesOf false (drop (at + length (text t) + 1) s)) refl)
-    by false false = refl
+    by : (o : Option Tree) → Ends at (toldOf text Wrong (λ t e. Read e (depth t)) at o)
+    by none = tt
+    by (some t) = (omega arith, omega (arith, depth-length t))
 
 -- ---- a line by its head
 
-abbrev pub byLine : List ℕ → Head → ℕ
+abbrev byLine : List ℕ → Head → ℕ
 byLine l Head.Bad = 12
 byLine l (Head.Spelling e) = 12
 byLine l (Head.Call e b) = judgedOf (callAt b l e) (length l)
 
-line-call : (l : List ℕ) (e : ℕ) (w : List ℕ) (o : Option Trees) → length w ≡ e → refusalBy (wholeCall l (aCall w o)) ≡ judgedOf (treesStep (e + 1) o) (length l)
+line-call : (l : List ℕ) (e : ℕ) (w : List ℕ) (o : Option Trees) → length w ≡ e
+    → refusalBy (wholeCall l (aCall w o)) ≡ judgedOf (toldOf texts Wrong (λ a e. Read e (depths a + 1)) (e + 1) o) (length l)
 unfolding depth
 line-call l e w none q = refl
 line-call l e w (some a) q =
@@ -115,47 +147,7 @@ line-step l (Head.Spelling e) i = refl
 line-step l (Head.Call e b) i =
     line-call l e (part l 0 e) (treesOf b (drop (e + 1) l)) (omega (arith, part-length l 0 e (omega arith) (omega (arith, i .1))))
 
--- ---- by what the program holds: a head h, or an argument's step r
-
-module _ (first : Bool) (s : List ℕ) (at : ℕ) (h k : Head) (p : h ≡ headAt first s at) (q : h ≡ k) where
-  pub head-room : Within at (length s) k
-  head-room = rw (sym p ∙ q) at (head-within first s at)
-
-  pub argument-given : byHead s k ≡ argumentAt first s at
-  unfolding argumentAt
-  argument-given = sym (ap (treeStep at) (tree-by-head first s at ∙ ap (treeBy s at) (sym p ∙ q)) ∙ head-step s at k head-room)
-
 pub line-given : (l : List ℕ) (h k : Head) → h ≡ headAt false l 0 → h ≡ k → byLine l k ≡ refusalOf l
 unfolding refusalOf lineTree
 line-given l h k p q =
     sym (ap (λ (o : Option Tree). refusalBy (wholeCall l o)) (tree-by-head false l 0 ∙ ap (treeBy l 0) (sym p ∙ q)) ∙ line-step l k (head-room false l 0 h k p q))
-
-module _ (first : Bool) (s : List ℕ) (at : ℕ) (r k : Step) (p : r ≡ argumentAt first s (at + 1)) (q : r ≡ k) where
-  pub call-given : byFirst s k ≡ callAt first s at
-  unfolding argumentAt callAt
-  call-given = sym (ap (treesStep (at + 1)) (trees-unfold first (drop (at + 1) s)) ∙ first-step s (at + 1) (treeOf first (drop (at + 1) s)) ∙ ap (byFirst s) (sym p ∙ q))
-
-abbrev Ends : ℕ → Step → Type 0
-Ends at Wrong = Unit {0}
-Ends at (Read e d) = (at ≤ e) × (d ≤ e)
-
-pub argument-ends : (first : Bool) (s : List ℕ) (at e d : ℕ) → argumentAt first s at ≡ Read e d → (at ≤ e) × (d ≤ e)
-unfolding argumentAt
-argument-ends first s at e d q = rw q at (by (treeOf first (drop at s)))
-  where
-    by : (o : Option Tree) → Ends at (treeStep at o)
-    by none = tt
-    by (some t) = (omega arith, omega (arith, depth-length t))
-
-module _ (s : List ℕ) (e d c : ℕ) (h : c ≡ getD s e 0) where
-  pub rest-closed : c ≡ 41 → Read (e + 1) (d + 1) ≡ restAt s e d
-  unfolding restAt
-  rest-closed z = rw (← h, eq-eqb c 41 z)
-
-  pub rest-more : (c ≡ 41 → ⊥) → c ≡ 59 → (r : Step) → r ≡ callAt false s e → deepened r (d + 1) ≡ restAt s e d
-  unfolding restAt
-  rest-more n z r q = rw (q, ← h, ne-eqb c 41 n, eq-eqb c 59 z)
-
-  pub rest-wrong : (c ≡ 41 → ⊥) → (c ≡ 59 → ⊥) → Wrong ≡ restAt s e d
-  unfolding restAt
-  rest-wrong n m = rw (← h, ne-eqb c 41 n, ne-eqb c 59 m)

@@ -10,7 +10,7 @@ use Rattle.nesting.specs.declared.Head.{Head}
 use Rattle.nesting.specs.declared.Head.the-variants as Head
 use Rattle.nesting.specs.declared.Step.{Step}
 use Rattle.nesting.specs.declared.Step.the-variants.{Read, Wrong}
-use Rattle.nesting.specs.Grammar.{isBitcast, Tree, Trees, text, texts, depth, depths}
+use Rattle.nesting.specs.Grammar.{isBitcast, text, texts, depth, depths}
 use Rattle.nesting.specs.Read.{word, opens, treeOf, treesOf}
 
 -- ---- what an argument starts with
@@ -31,19 +31,16 @@ headAt first s at = headBy first (word (drop at s)) (wordEnd s at) (getD s (word
 
 -- ---- an argument from `at` on, and arguments after the mark at `at`
 
-abbrev pub treeStep : ℕ → Option Tree → Step
-treeStep at none = Wrong
-treeStep at (some t) = Read (at + length (text t)) (depth t)
-
-abbrev pub treesStep : ℕ → Option Trees → Step
-treesStep at none = Wrong
-treesStep at (some a) = Read (at + length (texts a)) (depths a + 1)
+-- what is told of a tree that was read from `at` on, by where it ends
+abbrev pub toldOf : {A R : Type 0} → (A → List ℕ) → R → (A → ℕ → R) → ℕ → Option A → R
+toldOf textOf wrong told at none = wrong
+toldOf textOf wrong told at (some t) = told t (at + length (textOf t))
 
 unfoldable pub argumentAt : Bool → List ℕ → ℕ → Step
-argumentAt first s at = treeStep at (treeOf first (drop at s))
+argumentAt first s at = toldOf text Wrong (λ t e. Read e (depth t)) at (treeOf first (drop at s))
 
 unfoldable pub callAt : Bool → List ℕ → ℕ → Step
-callAt first s at = treesStep (at + 1) (treesOf first (drop (at + 1) s))
+callAt first s at = toldOf texts Wrong (λ a e. Read e (depths a + 1)) (at + 1) (treesOf first (drop (at + 1) s))
 
 abbrev pub deepened : Step → ℕ → Step
 deepened Wrong d = Wrong
