@@ -27,11 +27,11 @@ part s a e = take (e - a) (drop a s)
 pub part-length : (s : List ℕ) (a e : ℕ) → a ≤ e → e ≤ length s → a + length (part s a e) ≡ e
 part-length s a e h i = omega (arith, length-take-le (e - a) (drop a s) (omega (arith, length-drop a s)))
 
--- a head ends after `at` and within n bytes, a call's before the last
-abbrev pub Within : ℕ → ℕ → Head → Type 0
-Within at n Head.Bad = Unit {0}
-Within at n (Head.Spelling e) = (at < e) × (e ≤ n)
-Within at n (Head.Call e b) = (at < e) × (e < n)
+-- a head ends after `at` and within s, a call's before the last byte; a call's tells whether its name is bitcast's
+abbrev pub Within : List ℕ → ℕ → Head → Type 0
+Within s at Head.Bad = Unit {0}
+Within s at (Head.Spelling e) = (at < e) × (e ≤ length s)
+Within s at (Head.Call e b) = (at < e) × (e < length s) × (b ≡ isBitcast (part s at e))
 
 module _ (s : List ℕ) (at : ℕ) where
   word-part : part s at (wordEnd s at) ≡ word (drop at s)
@@ -45,15 +45,15 @@ module _ (s : List ℕ) (at : ℕ) where
       let k = ap length q in
       (omega arith, omega (arith, length-drop at s))
 
-pub head-within : (first : Bool) (s : List ℕ) (at : ℕ) → Within at (length s) (headAt first s at)
+pub head-within : (first : Bool) (s : List ℕ) (at : ℕ) → Within s at (headAt first s at)
 unfolding headAt isName
 head-within first s at = by (word (drop at s)) refl (opens first (word (drop at s)) (getD s (wordEnd s at) 0)) refl
   where
     by : (w : List ℕ) → word (drop at s) ≡ w → (t : Bool) → opens first w (getD s (wordEnd s at) 0) ≡ t
-        → Within at (length s) (cond t (Head.Call (wordEnd s at) (isBitcast w)) (spelt (wordEnd s at) w))
+        → Within s at (cond t (Head.Call (wordEnd s at) (isBitcast w)) (spelt (wordEnd s at) w))
     by w q true e =
         let o = opening first w (getD s (wordEnd s at) 0) e in
-        (word-room s at w q (some-long letterOrDigit w (o .name)) .0, mark-room s (wordEnd s at) 40 (o .bracket) (omega arith))
+        (word-room s at w q (some-long letterOrDigit w (o .name)) .0, mark-room s (wordEnd s at) 40 (o .bracket) (omega arith), ap isBitcast (sym q ∙ sym (word-part s at)))
     by [] q false e = tt
     by (x ∷ w) q false e = word-room s at (x ∷ w) q (omega arith)
 

@@ -39,19 +39,19 @@ deeper t a e = let d : max (depth t + 1) (depths a + 1) ≡ max (depth t) (depth
 
 abbrev depthPass : Pass ℕ Step Step
 depthPass = record {
-  of = depth;
+  of = λ first at. depth;
   one = λ d e. Read e d;
   wrong = Wrong;
-  all = λ a e. Read e (depths a + 1);
+  all = λ first at a e. Read e (depths a + 1);
   noArguments = Wrong;
   called = λ w r. r;
   called-none = λ w. refl;
-  called-all = call-deeper;
+  called-all = λ first at. call-deeper;
   closed = λ d e. Read e (d + 1);
-  closed-last = as-deep;
+  closed-last = λ first at. as-deep;
   joined = λ d r. deepened r (d + 1);
   joined-none = λ d. refl;
-  joined-all = deeper;
+  joined-all = λ first at. deeper;
   from = fromFirst;
   from-wrong = λ k. refl;
   from-one = λ k d e. refl;
@@ -69,7 +69,7 @@ byFirst s Wrong = Wrong
 byFirst s (Read e d) = restAt s e d
 
 module _ (first : Bool) (s : List ℕ) (at : ℕ) where
-  pub head-room : (h k : Head) → h ≡ headAt first s at → h ≡ k → Within at (length s) k
+  pub head-room : (h k : Head) → h ≡ headAt first s at → h ≡ k → Within s at k
   head-room h k p q = rw (sym p ∙ q) at (head-within first s at)
 
   pub argument-given : (h k : Head) → h ≡ headAt first s at → h ≡ k → byHead s k ≡ argumentAt first s at
@@ -117,7 +117,7 @@ pub argument-ends : (first : Bool) (s : List ℕ) (at e d : ℕ) → argumentAt 
 unfolding argumentAt
 argument-ends first s at e d q = rw q at (by (treeOf first (drop at s)))
   where
-    by : (o : Option Tree) → Ends at (toldOf text Wrong (λ t e. Read e (depth t)) at o)
+    by : (o : Option Tree) → Ends at (toldOf text Wrong (λ b t e. Read e (depth t)) at o)
     by none = tt
     by (some t) = (omega arith, omega (arith, depth-length t))
 
@@ -129,7 +129,7 @@ byLine l (Head.Spelling e) = 12
 byLine l (Head.Call e b) = judgedOf (callAt b l e) (length l)
 
 line-call : (l : List ℕ) (e : ℕ) (w : List ℕ) (o : Option Trees) → length w ≡ e
-    → refusalBy (wholeCall l (aCall w o)) ≡ judgedOf (toldOf texts Wrong (λ a e. Read e (depths a + 1)) (e + 1) o) (length l)
+    → refusalBy (wholeCall l (aCall w o)) ≡ judgedOf (toldOf texts Wrong (λ b a e. Read e (depths a + 1)) (e + 1) o) (length l)
 unfolding depth
 line-call l e w none q = refl
 line-call l e w (some a) q =
@@ -140,7 +140,7 @@ line-call l e w (some a) q =
     by true = refl
     by false = refl
 
-line-step : (l : List ℕ) (h : Head) → Within 0 (length l) h → refusalBy (wholeCall l (treeBy l 0 h)) ≡ byLine l h
+line-step : (l : List ℕ) (h : Head) → Within l 0 h → refusalBy (wholeCall l (treeBy l 0 h)) ≡ byLine l h
 unfolding callAt
 line-step l Head.Bad i = refl
 line-step l (Head.Spelling e) i = refl

@@ -31,16 +31,16 @@ headAt first s at = headBy first (word (drop at s)) (wordEnd s at) (getD s (word
 
 -- ---- an argument from `at` on, and arguments after the mark at `at`
 
--- what is told of a tree that was read from `at` on, by where it ends
-abbrev pub toldOf : {A R : Type 0} → (A → List ℕ) → R → (A → ℕ → R) → ℕ → Option A → R
+-- what is told of a tree that was read from `at` on, by where it starts and ends
+abbrev pub toldOf : {A R : Type 0} → (A → List ℕ) → R → (ℕ → A → ℕ → R) → ℕ → Option A → R
 toldOf textOf wrong told at none = wrong
-toldOf textOf wrong told at (some t) = told t (at + length (textOf t))
+toldOf textOf wrong told at (some t) = told at t (at + length (textOf t))
 
 unfoldable pub argumentAt : Bool → List ℕ → ℕ → Step
-argumentAt first s at = toldOf text Wrong (λ t e. Read e (depth t)) at (treeOf first (drop at s))
+argumentAt first s at = toldOf text Wrong (λ b t e. Read e (depth t)) at (treeOf first (drop at s))
 
 unfoldable pub callAt : Bool → List ℕ → ℕ → Step
-callAt first s at = toldOf texts Wrong (λ a e. Read e (depths a + 1)) (at + 1) (treesOf first (drop (at + 1) s))
+callAt first s at = toldOf texts Wrong (λ b a e. Read e (depths a + 1)) (at + 1) (treesOf first (drop (at + 1) s))
 
 abbrev pub deepened : Step → ℕ → Step
 deepened Wrong d = Wrong
