@@ -11,7 +11,7 @@ use borrow.Author.Tests.{ne-eqb, eq-eqb}
 use Rattle.values.specs.Value.{every}
 use Rattle.values.proofs.Bools.{both, and}
 use Rattle.nesting.specs.Grammar.{letterOrDigit, plain, isName, isSpelling, isBitcast, oneOrMore, Tree, Trees, spelling, call, last, next, text, texts, Formed, Formeds, Line}
-use Rattle.nesting.specs.Read.{word, markAfter, restAfter, opens, aSpelling, treesOf, treeOf, lineTree}
+use Rattle.nesting.specs.Read.{firstWord, markAfter, restAfter, opens, aSpelling, treesOf, treeOf, lineTree}
 use Rattle.nesting.specs.Laws.{Unique}
 use Rattle.nesting.proofs.Words.{some-every}
 use Rattle.nesting.proofs.Fuel.{trees-unfold}
@@ -22,8 +22,8 @@ abbrev Ends : List ℕ → Type 0
 Ends [] = Unit {0}
 Ends (x ∷ r) = plain x ≡ false
 
-word-all : (w r : List ℕ) → every plain w ≡ true → Ends r → word (w ++ r) ≡ w
-unfolding word
+word-all : (w r : List ℕ) → every plain w ≡ true → Ends r → firstWord (w ++ r) ≡ w
+unfolding firstWord
 word-all [] [] a e = refl
 word-all [] (x ∷ r) a e = rw e
 word-all (x ∷ w) r a e = let b = both (plain x) (every plain w) a in rw (b .0, word-all w r (b .1) e)

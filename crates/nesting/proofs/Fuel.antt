@@ -10,7 +10,7 @@ use lib.ListN.{length, drop, length-drop, length-append}
 use borrow.Author.Tests.{eqb-true, not-true}
 use Rattle.values.proofs.Bools.{both}
 use Rattle.nesting.specs.Grammar.{isName, isBitcast, letterOrDigit, Tree, Trees, last, text}
-use Rattle.nesting.specs.Read.{word, markAfter, restAfter, opens, aSpelling, aCall, andNext, argumentBy, argumentsBy, treesIn, treesOf, treeOf}
+use Rattle.nesting.specs.Read.{firstWord, markAfter, restAfter, opens, aSpelling, aCall, andNext, argumentBy, argumentsBy, treesIn, treesOf, treeOf}
 use Rattle.nesting.proofs.Words.{word-front, some-long, mark-room}
 
 pub record Opening (first : Bool) (w : List ℕ) (mark : ℕ) : Type 0 where
@@ -27,21 +27,21 @@ opening first w mark e =
 
 -- two ways to read that agree on shorter lists
 module _ (f g : Bool → List ℕ → Option Trees) (first : Bool) (l : List ℕ) (h : (b : Bool) (k : List ℕ) → length k < length l → f b k ≡ g b k) where
-  shorter : opens first (word l) (markAfter (word l) l) ≡ true → length (restAfter (word l) l) < length l
+  shorter : opens first (firstWord l) (markAfter (firstWord l) l) ≡ true → length (restAfter (firstWord l) l) < length l
   unfolding isName
   shorter e =
-      let o = opening first (word l) (markAfter (word l) l) e in
-      let n = some-long letterOrDigit (word l) (o .name) in
-      let m = ap length (word-front l) ∙ length-append (word l) (drop (length (word l)) l) in
-      omega (arith, length-drop (length (word l) + 1) l)
+      let o = opening first (firstWord l) (markAfter (firstWord l) l) e in
+      let n = some-long letterOrDigit (firstWord l) (o .name) in
+      let m = ap length (word-front l) ∙ length-append (firstWord l) (drop (length (firstWord l)) l) in
+      omega (arith, length-drop (length (firstWord l) + 1) l)
 
-  argument-same : argumentBy f first l (word l) ≡ argumentBy g first l (word l)
-  argument-same = by (opens first (word l) (markAfter (word l) l)) refl
+  argument-same : argumentBy f first l (firstWord l) ≡ argumentBy g first l (firstWord l)
+  argument-same = by (opens first (firstWord l) (markAfter (firstWord l) l)) refl
     where
-      by : (t : Bool) → opens first (word l) (markAfter (word l) l) ≡ t
-          → cond t (aCall (word l) (f (isBitcast (word l)) (restAfter (word l) l))) (aSpelling (word l))
-          ≡ cond t (aCall (word l) (g (isBitcast (word l)) (restAfter (word l) l))) (aSpelling (word l))
-      by true e = ap (aCall (word l)) (h (isBitcast (word l)) (restAfter (word l) l) (shorter e))
+      by : (t : Bool) → opens first (firstWord l) (markAfter (firstWord l) l) ≡ t
+          → cond t (aCall (firstWord l) (f (isBitcast (firstWord l)) (restAfter (firstWord l) l))) (aSpelling (firstWord l))
+          ≡ cond t (aCall (firstWord l) (g (isBitcast (firstWord l)) (restAfter (firstWord l) l))) (aSpelling (firstWord l))
+      by true e = ap (aCall (firstWord l)) (h (isBitcast (firstWord l)) (restAfter (firstWord l) l) (shorter e))
       by false e = refl
 
   arguments-same : (o : Option Tree) → argumentsBy f l o ≡ argumentsBy g l o
@@ -57,8 +57,8 @@ module _ (f g : Bool → List ℕ → Option Trees) (first : Bool) (l : List ℕ
           let r = mark-room l (length (text t)) 59 (eqb-true _ _ e) (omega arith) in
           ap (andNext t) (h false (restAfter (text t) l) (omega (arith, length-drop (length (text t) + 1) l)))
 
-  both-same : argumentsBy f l (argumentBy f first l (word l)) ≡ argumentsBy g l (argumentBy g first l (word l))
-  both-same = ap (argumentsBy f l) argument-same ∙ arguments-same (argumentBy g first l (word l))
+  both-same : argumentsBy f l (argumentBy f first l (firstWord l)) ≡ argumentsBy g l (argumentBy g first l (firstWord l))
+  both-same = ap (argumentsBy f l) argument-same ∙ arguments-same (argumentBy g first l (firstWord l))
 
 any-number : (n m : ℕ) (first : Bool) (l : List ℕ) → length l < n → length l < m → treesIn n first l ≡ treesIn m first l
 unfolding treesIn

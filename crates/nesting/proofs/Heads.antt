@@ -15,7 +15,7 @@ use Rattle.names.specs.Names.{nameOf}
 use Rattle.nesting.specs.declared.Head.{Head}
 use Rattle.nesting.specs.declared.Head.the-variants as Head
 use Rattle.nesting.specs.Grammar.{letterOrDigit, isName, isBitcast, Tree, spelling}
-use Rattle.nesting.specs.Read.{word, opens, aSpelling, aCall, treeOf, treesOf}
+use Rattle.nesting.specs.Read.{firstWord, opens, aSpelling, aCall, treeOf, treesOf}
 use Rattle.nesting.specs.Program.{wordEnd, spelt, headBy, headAt}
 use Rattle.nesting.proofs.Words.{take-word, word-front, some-long, long-some, mark-room}
 use Rattle.nesting.proofs.Fuel.{opening}
@@ -34,22 +34,22 @@ Within s at (Head.Spelling e) = (at < e) × (e ≤ length s)
 Within s at (Head.Call e b) = (at < e) × (e < length s) × (b ≡ isBitcast (part s at e))
 
 module _ (s : List ℕ) (at : ℕ) where
-  word-part : part s at (wordEnd s at) ≡ word (drop at s)
+  word-part : part s at (wordEnd s at) ≡ firstWord (drop at s)
   unfolding wordEnd
-  word-part = let e : at + length (word (drop at s)) - at ≡ length (word (drop at s)) = omega arith in rw (e, take-word (drop at s))
+  word-part = let e : at + length (firstWord (drop at s)) - at ≡ length (firstWord (drop at s)) = omega arith in rw (e, take-word (drop at s))
 
-  word-room : (w : List ℕ) → word (drop at s) ≡ w → 0 < length w → (at < wordEnd s at) × (wordEnd s at ≤ length s)
+  word-room : (w : List ℕ) → firstWord (drop at s) ≡ w → 0 < length w → (at < wordEnd s at) × (wordEnd s at ≤ length s)
   unfolding wordEnd
   word-room w q h =
-      let l = ap length (word-front (drop at s)) ∙ length-append (word (drop at s)) (drop (length (word (drop at s))) (drop at s)) in
+      let l = ap length (word-front (drop at s)) ∙ length-append (firstWord (drop at s)) (drop (length (firstWord (drop at s))) (drop at s)) in
       let k = ap length q in
       (omega arith, omega (arith, length-drop at s))
 
 pub head-within : (first : Bool) (s : List ℕ) (at : ℕ) → Within s at (headAt first s at)
 unfolding headAt isName
-head-within first s at = by (word (drop at s)) refl (opens first (word (drop at s)) (getD s (wordEnd s at) 0)) refl
+head-within first s at = by (firstWord (drop at s)) refl (opens first (firstWord (drop at s)) (getD s (wordEnd s at) 0)) refl
   where
-    by : (w : List ℕ) → word (drop at s) ≡ w → (t : Bool) → opens first w (getD s (wordEnd s at) 0) ≡ t
+    by : (w : List ℕ) → firstWord (drop at s) ≡ w → (t : Bool) → opens first w (getD s (wordEnd s at) 0) ≡ t
         → Within s at (cond t (Head.Call (wordEnd s at) (isBitcast w)) (spelt (wordEnd s at) w))
     by w q true e =
         let o = opening first w (getD s (wordEnd s at) 0) e in
@@ -67,7 +67,7 @@ treeBy s at (Head.Call e b) = aCall (part s at e) (treesOf b (drop (e + 1) s))
 pub tree-by-head : (first : Bool) (s : List ℕ) (at : ℕ) → treeOf first (drop at s) ≡ treeBy s at (headAt first s at)
 unfolding treeOf headAt wordEnd
 tree-by-head first s at =
-    let w = word (drop at s) in
+    let w = firstWord (drop at s) in
     rw (getD-drop at s (length w) 0) (by w (opens first w (getD s (at + length w) 0)) (sym (word-part s at)))
   where
     by : (w : List ℕ) (t : Bool) → w ≡ part s at (at + length w)
@@ -82,25 +82,25 @@ tree-by-head first s at =
 -- ---- the head by what the program tests
 
 module _ (first : Bool) (s : List ℕ) (at e : ℕ) (q : e ≡ wordEnd s at) where
-  unfolded : e ≡ at + length (word (drop at s))
+  unfolded : e ≡ at + length (firstWord (drop at s))
   unfolding wordEnd
   unfolded = q
 
   pub head-bad : at ≡ e → Head.Bad ≡ headAt first s at
   unfolding headAt opens isName
-  head-bad h = by (word (drop at s)) (omega (arith, unfolded))
+  head-bad h = by (firstWord (drop at s)) (omega (arith, unfolded))
     where
       by : (w : List ℕ) → length w ≡ 0 → Head.Bad ≡ headBy first w (wordEnd s at) (getD s (wordEnd s at) 0)
       by [] z = rw (and-false (not first))
       by (x ∷ w) z = absurd (omega arith)
 
   module _ (n : Bool) (c : ℕ) (i : at < e) (hn : n ≡ every letterOrDigit (part s at e)) (hc : c ≡ getD s e 0) where
-    some-word : 0 < length (word (drop at s))
+    some-word : 0 < length (firstWord (drop at s))
     some-word = omega (arith, unfolded)
 
-    opens-at : opens first (word (drop at s)) (getD s (wordEnd s at) 0) ≡ not first && n && eqb c 40
+    opens-at : opens first (firstWord (drop at s)) (getD s (wordEnd s at) 0) ≡ not first && n && eqb c 40
     unfolding opens isName
-    opens-at = rw (hn, hc, q, word-part s at, long-some letterOrDigit (word (drop at s)) some-word)
+    opens-at = rw (hn, hc, q, word-part s at, long-some letterOrDigit (firstWord (drop at s)) some-word)
 
     pub head-call : (b : Bool) → not first && n && eqb c 40 ≡ true → b ≡ sameBytes (nameOf Bitcast) (part s at e) → Head.Call e b ≡ headAt first s at
     unfolding headAt isBitcast
@@ -108,7 +108,7 @@ module _ (first : Bool) (s : List ℕ) (at e : ℕ) (q : e ≡ wordEnd s at) whe
 
     pub head-spelling : not first && n && eqb c 40 ≡ false → Head.Spelling e ≡ headAt first s at
     unfolding headAt
-    head-spelling t = rw (opens-at, t, q) (by (word (drop at s)) some-word)
+    head-spelling t = rw (opens-at, t, q) (by (firstWord (drop at s)) some-word)
       where
         by : (w : List ℕ) → 0 < length w → Head.Spelling (wordEnd s at) ≡ spelt (wordEnd s at) w
         by [] h = absurd (omega arith)

@@ -13,7 +13,7 @@ use Rattle.nesting.specs.declared.Head.{Head}
 use Rattle.nesting.specs.declared.Head.the-variants as Head
 use Rattle.nesting.specs.Grammar.{isBitcast, Tree, Trees, spelling, call, last, next, text, texts}
 use Rattle.nesting.specs.Read.{aCall, andNext, argumentsBy, treeOf, treesOf}
-use Rattle.nesting.specs.Program.{headAt, toldOf}
+use Rattle.nesting.specs.Program.{headAt, readAs}
 use Rattle.nesting.proofs.Fuel.{trees-unfold}
 use Rattle.nesting.proofs.Heads.{part, part-length, Within, head-within, treeBy, tree-by-head}
 
@@ -31,9 +31,10 @@ next-end : (at e : ℕ) (t : Tree) (a : Trees) → at + length (text t) ≡ e �
 unfolding text
 next-end at e t a q = omega (arith, length-append (text t) (59 ∷ texts a))
 
--- ---- a pass: what it gives for an argument (R, with an A for its tree) and for arguments (S), and how the one is made of the other; a tree stands at a place, and may be a bitcast's first
+-- ---- a pass: what it gives for an argument (R, with an A for its tree) and for arguments (S), and how the one is made of the other
 
 pub record Pass (A R S : Type 0) : Type 0 where
+  -- by whether it is a bitcast's first, and where it starts
   pub of : Bool → ℕ → Tree → A
   pub one : A → ℕ → R
   pub wrong : R
@@ -57,10 +58,10 @@ pub record Pass (A R S : Type 0) : Type 0 where
 
 module _ {A R S : Type 0} (p : Pass A R S) where
   abbrev oneOf : Bool → ℕ → Option Tree → R
-  oneOf first at o = toldOf text (p .wrong) (λ b t e. p .one (p .of first b t) e) at o
+  oneOf first at o = readAs text (p .wrong) (λ b t e. p .one (p .of first b t) e) at o
 
   abbrev allOf : Bool → ℕ → Option Trees → S
-  allOf first at o = toldOf texts (p .noArguments) (p .all first) at o
+  allOf first at o = readAs texts (p .noArguments) (p .all first) at o
 
   a-call : (first : Bool) (at e : ℕ) (w : List ℕ) (o : Option Trees) → at + length w ≡ e → oneOf first at (aCall w o) ≡ p .called w (allOf (isBitcast w) (e + 1) o)
   a-call first at e w none q = sym (p .called-none w)

@@ -10,7 +10,7 @@ use lib.ListN.{length, drop, length-append}
 use borrow.Author.Tests.{eqb-true}
 use Rattle.values.proofs.Bools.{both}
 use Rattle.nesting.specs.Grammar.{isSpelling, isBitcast, Tree, Trees, spelling, call, last, next, text, texts, Formed, Formeds, Line, isCall}
-use Rattle.nesting.specs.Read.{word, markAfter, restAfter, opens, aSpelling, aCall, andNext, argumentBy, argumentsBy, treesIn, treesOf, treeOf, wholeCall, lineTree}
+use Rattle.nesting.specs.Read.{firstWord, markAfter, restAfter, opens, aSpelling, aCall, andNext, argumentBy, argumentsBy, treesIn, treesOf, treeOf, wholeCall, lineTree}
 use Rattle.nesting.specs.Laws.{Exactly}
 use Rattle.nesting.proofs.Words.{word-front, word-plain}
 use Rattle.nesting.proofs.Fuel.{opening}
@@ -40,19 +40,19 @@ marked l x (y ∷ r) c e g h =
 -- ---- an argument
 
 module _ (l : List ℕ) (first : Bool) where
-  of-spelling : (t : Tree) (w : List ℕ) → word l ≡ w → aSpelling w ≡ some t → Starts l first t
+  of-spelling : (t : Tree) (w : List ℕ) → firstWord l ≡ w → aSpelling w ≡ some t → Starts l first t
   unfolding Formed text isSpelling
   of-spelling t [] q e = none-some e
   of-spelling t (x ∷ w) q e =
       let z : spelling (x ∷ w) ≡ t = cc in
       rw (← z) (record { formed = rw q at (word-plain l); rest = drop (length (x ∷ w)) l; front = rw q at (word-front l) })
 
-  of-call : (t : Tree) (o : Option Trees) → opens first (word l) (markAfter (word l) l) ≡ true
-      → ((a : Trees) → o ≡ some a → StartsAll (restAfter (word l) l) (isBitcast (word l)) a) → aCall (word l) o ≡ some t → Starts l first t
+  of-call : (t : Tree) (o : Option Trees) → opens first (firstWord l) (markAfter (firstWord l) l) ≡ true
+      → ((a : Trees) → o ≡ some a → StartsAll (restAfter (firstWord l) l) (isBitcast (firstWord l)) a) → aCall (firstWord l) o ≡ some t → Starts l first t
   unfolding Formed text
   of-call t none o h e = none-some e
   of-call t (some a) o h e =
-      let w = word l in
+      let w = firstWord l in
       let p = opening first w (markAfter w l) o in
       let i = h a refl in
       let z : call w a ≡ t = cc in
@@ -64,13 +64,13 @@ module _ (l : List ℕ) (first : Bool) where
       })
 
   argument-sound : (f : Bool → List ℕ → Option Trees) → ((b : Bool) (k : List ℕ) (a : Trees) → f b k ≡ some a → StartsAll k b a)
-      → (t : Tree) → argumentBy f first l (word l) ≡ some t → Starts l first t
-  argument-sound f h t e = by (opens first (word l) (markAfter (word l) l)) refl e
+      → (t : Tree) → argumentBy f first l (firstWord l) ≡ some t → Starts l first t
+  argument-sound f h t e = by (opens first (firstWord l) (markAfter (firstWord l) l)) refl e
     where
-      by : (u : Bool) → opens first (word l) (markAfter (word l) l) ≡ u
-          → cond u (aCall (word l) (f (isBitcast (word l)) (restAfter (word l) l))) (aSpelling (word l)) ≡ some t → Starts l first t
-      by true q e = of-call t (f (isBitcast (word l)) (restAfter (word l) l)) q (λ a. h (isBitcast (word l)) (restAfter (word l) l) a) e
-      by false q e = of-spelling t (word l) refl e
+      by : (u : Bool) → opens first (firstWord l) (markAfter (firstWord l) l) ≡ u
+          → cond u (aCall (firstWord l) (f (isBitcast (firstWord l)) (restAfter (firstWord l) l))) (aSpelling (firstWord l)) ≡ some t → Starts l first t
+      by true q e = of-call t (f (isBitcast (firstWord l)) (restAfter (firstWord l) l)) q (λ a. h (isBitcast (firstWord l)) (restAfter (firstWord l) l) a) e
+      by false q e = of-spelling t (firstWord l) refl e
 
   -- ---- arguments
 
@@ -113,7 +113,7 @@ unfolding treesIn
 trees-sound zero first l a e = none-some e
 trees-sound (suc n) first l a e =
     let h : (b : Bool) (k : List ℕ) (c : Trees) → treesIn n b k ≡ some c → StartsAll k b c = λ b k c q. trees-sound n b k c q in
-    arguments-sound l first (λ b k. treesIn n b k) (λ k c q. h false k c q) (argumentBy (λ b k. treesIn n b k) first l (word l))
+    arguments-sound l first (λ b k. treesIn n b k) (λ k c q. h false k c q) (argumentBy (λ b k. treesIn n b k) first l (firstWord l))
     (λ t q. argument-sound l first (λ b k. treesIn n b k) h t q) a e
 
 tree-sound : (first : Bool) (l : List ℕ) (t : Tree) → treeOf first l ≡ some t → Starts l first t

@@ -14,7 +14,7 @@ use Rattle.nesting.specs.declared.Step.{Step}
 use Rattle.nesting.specs.declared.Step.the-variants.{Read, Wrong}
 use Rattle.nesting.specs.Grammar.{Tree, Trees, spelling, call, last, next, text, texts, depth, depths}
 use Rattle.nesting.specs.Read.{aCall, treeOf, treesOf, wholeCall, lineTree, refusalBy, refusalOf}
-use Rattle.nesting.specs.Program.{headAt, toldOf, argumentAt, callAt, restAt, deepened, judgedOf}
+use Rattle.nesting.specs.Program.{headAt, readAs, argumentAt, callAt, restAt, deepened, judgedOf}
 use Rattle.nesting.proofs.Heads.{part, part-length, Within, head-within, treeBy, tree-by-head}
 use Rattle.nesting.proofs.Pass.{Pass, call-end}
 use Rattle.nesting.proofs.Pass as pass
@@ -117,7 +117,7 @@ pub argument-ends : (first : Bool) (s : List ℕ) (at e d : ℕ) → argumentAt 
 unfolding argumentAt
 argument-ends first s at e d q = rw q at (by (treeOf first (drop at s)))
   where
-    by : (o : Option Tree) → Ends at (toldOf text Wrong (λ b t e. Read e (depth t)) at o)
+    by : (o : Option Tree) → Ends at (readAs text Wrong (λ b t e. Read e (depth t)) at o)
     by none = tt
     by (some t) = (omega arith, omega (arith, depth-length t))
 
@@ -129,7 +129,7 @@ byLine l (Head.Spelling e) = 12
 byLine l (Head.Call e b) = judgedOf (callAt b l e) (length l)
 
 line-call : (l : List ℕ) (e : ℕ) (w : List ℕ) (o : Option Trees) → length w ≡ e
-    → refusalBy (wholeCall l (aCall w o)) ≡ judgedOf (toldOf texts Wrong (λ b a e. Read e (depths a + 1)) (e + 1) o) (length l)
+    → refusalBy (wholeCall l (aCall w o)) ≡ judgedOf (readAs texts Wrong (λ b a e. Read e (depths a + 1)) (e + 1) o) (length l)
 unfolding depth
 line-call l e w none q = refl
 line-call l e w (some a) q =

@@ -11,44 +11,44 @@ use lib.Seq.{drop-cons}
 use borrow.Author.Tests.{ltb-true, ltb-false}
 use Rattle.values.specs.Value.{every}
 use Rattle.nesting.specs.Grammar.{plain, oneOrMore}
-use Rattle.nesting.specs.Read.{word}
+use Rattle.nesting.specs.Read.{firstWord}
 use Rattle.nesting.specs.Program.{wordEnd}
 
 -- ---- its end
 
 module _ (s : List ℕ) (i : ℕ) where
   pub word-stops : i < length s → plain (getD s i 0) ≡ false → wordEnd s i ≡ i
-  unfolding word wordEnd
+  unfolding firstWord wordEnd
   word-stops h e = rw (drop-cons s i 0 h, e) (omega arith)
 
   pub word-goes-on : i < length s → plain (getD s i 0) ≡ true → wordEnd s i ≡ wordEnd s (i + 1)
-  unfolding word wordEnd
+  unfolding firstWord wordEnd
   word-goes-on h e = rw (drop-cons s i 0 h, e, add-one) (omega arith)
 
   pub word-ends : length s ≤ i → wordEnd s i ≡ i
-  unfolding word wordEnd
+  unfolding firstWord wordEnd
   word-ends h = rw (drop-of-length-le s h) (omega arith)
 
 -- ---- its bytes
 
-pub take-word : (l : List ℕ) → take (length (word l)) l ≡ word l
-unfolding word
+pub take-word : (l : List ℕ) → take (length (firstWord l)) l ≡ firstWord l
+unfolding firstWord
 take-word [] = refl
 take-word (x ∷ l) = by (plain x) (take-word l)
   where
-    by : (t : Bool) → take (length (word l)) l ≡ word l → take (length (cond t (x ∷ word l) [])) (x ∷ l) ≡ cond t (x ∷ word l) []
+    by : (t : Bool) → take (length (firstWord l)) l ≡ firstWord l → take (length (cond t (x ∷ firstWord l) [])) (x ∷ l) ≡ cond t (x ∷ firstWord l) []
     by true e = ap (λ (k : List ℕ). x ∷ k) e
     by false e = refl
 
-pub word-front : (l : List ℕ) → l ≡ word l ++ drop (length (word l)) l
-word-front l = sym (take-append-drop (length (word l)) l) ∙ ap (λ (w : List ℕ). w ++ drop (length (word l)) l) (take-word l)
+pub word-front : (l : List ℕ) → l ≡ firstWord l ++ drop (length (firstWord l)) l
+word-front l = sym (take-append-drop (length (firstWord l)) l) ∙ ap (λ (w : List ℕ). w ++ drop (length (firstWord l)) l) (take-word l)
 
-pub word-plain : (l : List ℕ) → every plain (word l) ≡ true
-unfolding word
+pub word-plain : (l : List ℕ) → every plain (firstWord l) ≡ true
+unfolding firstWord
 word-plain [] = refl
 word-plain (x ∷ l) = by (plain x) refl (word-plain l)
   where
-    by : (t : Bool) → plain x ≡ t → every plain (word l) ≡ true → every plain (cond t (x ∷ word l) []) ≡ true
+    by : (t : Bool) → plain x ≡ t → every plain (firstWord l) ≡ true → every plain (cond t (x ∷ firstWord l) []) ≡ true
     by true q e = rw q e
     by false q e = refl
 

@@ -40,12 +40,12 @@ abbrev pub oneOrMore : (ℕ → Bool) → List ℕ → Bool
 oneOrMore p [] = false
 oneOrMore p (x ∷ xs) = every p (x ∷ xs)
 
-abbrev pub within : ℕ → ℕ → ℕ → Bool
-within a b x = leb a x && leb x b
+abbrev pub between : ℕ → ℕ → ℕ → Bool
+between a b x = leb a x && leb x b
 
 -- "A name is one or more letters and digits", those of ASCII
 unfoldable pub letterOrDigit : ℕ → Bool
-letterOrDigit x = within (byte "0") (byte "9") x || within (byte "A") (byte "Z") x || within (byte "a") (byte "z") x
+letterOrDigit x = between (byte "0") (byte "9") x || between (byte "A") (byte "Z") x || between (byte "a") (byte "z") x
 
 unfoldable pub isName : List ℕ → Bool
 isName w = oneOrMore letterOrDigit w

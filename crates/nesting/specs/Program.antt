@@ -11,13 +11,13 @@ use Rattle.nesting.specs.declared.Head.the-variants as Head
 use Rattle.nesting.specs.declared.Step.{Step}
 use Rattle.nesting.specs.declared.Step.the-variants.{Read, Wrong}
 use Rattle.nesting.specs.Grammar.{isBitcast, text, texts, depth, depths}
-use Rattle.nesting.specs.Read.{word, opens, treeOf, treesOf}
+use Rattle.nesting.specs.Read.{firstWord, opens, treeOf, treesOf}
 
 -- ---- what an argument starts with
 
 -- where the word from `at` on ends
 unfoldable pub wordEnd : List ℕ → ℕ → ℕ
-wordEnd s at = at + length (word (drop at s))
+wordEnd s at = at + length (firstWord (drop at s))
 
 abbrev pub spelt : ℕ → List ℕ → Head
 spelt end [] = Head.Bad
@@ -27,20 +27,20 @@ abbrev pub headBy : Bool → List ℕ → ℕ → ℕ → Head
 headBy first w end mark = cond (opens first w mark) (Head.Call end (isBitcast w)) (spelt end w)
 
 unfoldable pub headAt : Bool → List ℕ → ℕ → Head
-headAt first s at = headBy first (word (drop at s)) (wordEnd s at) (getD s (wordEnd s at) 0)
+headAt first s at = headBy first (firstWord (drop at s)) (wordEnd s at) (getD s (wordEnd s at) 0)
 
 -- ---- an argument from `at` on, and arguments after the mark at `at`
 
--- what is told of a tree that was read from `at` on, by where it starts and ends
-abbrev pub toldOf : {A R : Type 0} → (A → List ℕ) → R → (ℕ → A → ℕ → R) → ℕ → Option A → R
-toldOf textOf wrong told at none = wrong
-toldOf textOf wrong told at (some t) = told at t (at + length (textOf t))
+-- what a program gives for a tree that was read from `at` on, by where it starts and ends
+abbrev pub readAs : {A R : Type 0} → (A → List ℕ) → R → (ℕ → A → ℕ → R) → ℕ → Option A → R
+readAs textOf wrong given at none = wrong
+readAs textOf wrong given at (some t) = given at t (at + length (textOf t))
 
 unfoldable pub argumentAt : Bool → List ℕ → ℕ → Step
-argumentAt first s at = toldOf text Wrong (λ b t e. Read e (depth t)) at (treeOf first (drop at s))
+argumentAt first s at = readAs text Wrong (λ b t e. Read e (depth t)) at (treeOf first (drop at s))
 
 unfoldable pub callAt : Bool → List ℕ → ℕ → Step
-callAt first s at = toldOf texts Wrong (λ b a e. Read e (depths a + 1)) (at + 1) (treesOf first (drop (at + 1) s))
+callAt first s at = readAs texts Wrong (λ b a e. Read e (depths a + 1)) (at + 1) (treesOf first (drop (at + 1) s))
 
 abbrev pub deepened : Step → ℕ → Step
 deepened Wrong d = Wrong

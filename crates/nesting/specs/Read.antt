@@ -11,9 +11,9 @@ use Rattle.nesting.specs.Grammar.{plain, isName, isBitcast, Tree, Trees,
 -- ---- an argument
 
 -- the longest front that has no tab, semicolon or round bracket
-unfoldable pub word : List ℕ → List ℕ
-word [] = []
-word (x ∷ l) = cond (plain x) (x ∷ word l) []
+unfoldable pub firstWord : List ℕ → List ℕ
+firstWord [] = []
+firstWord (x ∷ l) = cond (plain x) (x ∷ firstWord l) []
 
 -- of l, which starts with w: the byte after w, and what follows that byte
 abbrev pub markAfter : List ℕ → List ℕ → ℕ
@@ -55,13 +55,13 @@ argumentsBy more l (some t) = after t (markAfter (text t) l) (more false (restAf
 -- what l starts with; n is more than its bytes
 unfoldable pub treesIn : ℕ → Bool → List ℕ → Option Trees
 treesIn zero first l = none
-treesIn (suc n) first l = argumentsBy (λ b k. treesIn n b k) l (argumentBy (λ b k. treesIn n b k) first l (word l))
+treesIn (suc n) first l = argumentsBy (λ b k. treesIn n b k) l (argumentBy (λ b k. treesIn n b k) first l (firstWord l))
 
 unfoldable pub treesOf : Bool → List ℕ → Option Trees
 treesOf first l = treesIn (suc (length l)) first l
 
 unfoldable pub treeOf : Bool → List ℕ → Option Tree
-treeOf first l = argumentBy treesOf first l (word l)
+treeOf first l = argumentBy treesOf first l (firstWord l)
 
 -- ---- a line: one call and nothing after it
 
