@@ -22,10 +22,10 @@ pub record Starts (l : List ℕ) (first : Bool) (t : Tree) : Type 0 where
   pub rest : List ℕ
   pub front : l ≡ text t ++ rest
 
-record StartsAll (l : List ℕ) (first : Bool) (a : Trees) : Type 0 where
-  formed : Formeds a first
-  rest : List ℕ
-  front : l ≡ texts a ++ rest
+pub record StartsAll (l : List ℕ) (first : Bool) (a : Trees) : Type 0 where
+  pub formed : Formeds a first
+  pub rest : List ℕ
+  pub front : l ≡ texts a ++ rest
 
 none-some : {A B : Type 0} {a : A} → _≡_ {A = Option A} none (some a) → B
 none-some e = absurd (let z : _≡_ {A = ℕ} 0 1 = cc in omega arith)
@@ -116,9 +116,13 @@ trees-sound (suc n) first l a e =
     arguments-sound l first (λ b k. treesIn n b k) (λ k c q. h false k c q) (argumentBy (λ b k. treesIn n b k) first l (firstWord l))
     (λ t q. argument-sound l first (λ b k. treesIn n b k) h t q) a e
 
+pub trees-front : (first : Bool) (l : List ℕ) (a : Trees) → treesOf first l ≡ some a → StartsAll l first a
+unfolding treesOf
+trees-front first l a e = trees-sound (suc (length l)) first l a e
+
 tree-sound : (first : Bool) (l : List ℕ) (t : Tree) → treeOf first l ≡ some t → Starts l first t
-unfolding treeOf treesOf
-tree-sound first l t e = argument-sound l first treesOf (λ b k a q. trees-sound (suc (length k)) b k a q) t e
+unfolding treeOf
+tree-sound first l t e = argument-sound l first treesOf (λ b k a q. trees-front b k a q) t e
 
 -- ---- a line
 
