@@ -11,10 +11,10 @@ use borrow.Author.Tests.{eq-eqb, ne-eqb}
 use Rattle.readings.specs.declared.Reading.{Reading}
 use Rattle.nesting.specs.declared.Head.{Head}
 use Rattle.nesting.specs.declared.Head.the-variants as Head
-use Rattle.nesting.specs.Grammar.{isBitcast, Tree, Trees, spelling, call, last, next, text, texts, isCall, depth}
+use Rattle.nesting.specs.Grammar.{isBitcast, Tree, Trees, call, last, next, text, texts, isCall, depth}
 use Rattle.nesting.specs.Read.{aCall, treeOf, treesOf, lineTree, wholeCall, refusalBy, refusalOf}
 use Rattle.nesting.specs.Program.{headAt, readAs}
-use Rattle.nesting.proofs.Heads.{part, part-length, Within, treeBy, tree-by-head}
+use Rattle.nesting.proofs.Heads.{part, part-length, treeBy, tree-by-head}
 use Rattle.nesting.proofs.Sound.{StartsAll, trees-front}
 use Rattle.nesting.proofs.Steps.{head-room}
 use Rattle.nesting.proofs.Steps as steps

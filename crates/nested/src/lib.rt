@@ -10,7 +10,6 @@ use values::Value;
 ghost use mathlib.Core.Path.{_≡_};
 ghost use Prim.Native.Nat.{_+_, _-_, _<_, _≤_};
 ghost use lib.ListN.{length, take, drop};
-ghost use Rattle.values.specs.Value.{emptyValue};
 ghost use Rattle.misspellings.specs.Misspellings.{rightly};
 ghost use Rattle.nesting.specs.Read.{refusalOf};
 ghost use Rattle.nested.specs.Nested.{refusedAt, told, ofCall, spelledType, spelledValue, spelled, handed, firstOf, alone, joined, callBy, judged, nestedOf};
