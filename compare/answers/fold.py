@@ -629,7 +629,8 @@ def read_call(name, line, at):
 
 
 def fold_call(call, builtins):
-    return judge(call.name, [fold_inner(argument, builtins) if isinstance(argument, Call) else argument for argument in call.arguments], builtins)
+    arguments = [fold_inner(argument, builtins) if isinstance(argument, Call) else argument for argument in call.arguments]
+    return judge(call.name, arguments, builtins)
 
 
 def fold_inner(call, builtins):
