@@ -2,14 +2,15 @@
 """fold.py [--text] <lines >answers
 
 Answers each line of standard input as foldlines must, or with --text as foldtext must: a reading of docs/01-scope.md and
-of Q-1, Q-2 and Q-3 in docs/02-change-requests.md, with docs/DECISIONS.md where they leave a choice, written from their
-words and not from the proved code. "01", "Q-1", "Q-2" and "Q-3" below are those.
+of Q-1, Q-2, Q-3 and Q-8 in docs/02-change-requests.md, with docs/DECISIONS.md where they leave a choice, written from
+their words and not from the proved code. "01", "Q-1", "Q-2", "Q-3" and "Q-8" below are those.
 
 A lane is its bits. What is worked out is worked out in whole numbers and exact fractions, never in floats:
 `Format.number` says which number a float's bits are, and `Format.rounded` alone turns a number into a float's bits.
 """
 
 import math
+import re
 import sys
 from fractions import Fraction
 from typing import Callable, NamedTuple
@@ -565,32 +566,94 @@ def lane_faults(type, text, place):
         yield WRONG_LANE_COUNT, place - 1
 
 
-def fold(line, builtins):
-    """The values that a line is answered by."""
-    if len(line) > LONGEST_LINE:
-        raise Refused(7)
-    name, *fields = line.split('\t')
+def judge(name, arguments, builtins):
+    """The values that a call is answered by. An argument is a spelling with its place in the line, or a value."""
     if name not in builtins:
         raise Refused(1)
     builtin = builtins[name]
-    if len(fields) != len(builtin.takes):
+    if len(arguments) != len(builtin.takes):
         raise Refused(2)
-    arguments, types, place = [], [], len(name) + 2
-    for index, field in enumerate(fields):
-        if name == 'bitcast' and index == 0:
-            arguments.append(read_type(field, place))
-            types.append(arguments[-1])
+    read, types = [], []
+    for index, argument in enumerate(arguments):
+        if isinstance(argument, Value):
+            read.append(argument)
+            types.append(argument.type)
+        elif name == 'bitcast' and index == 0:
+            read.append(read_type(*argument))
+            types.append(read[-1])
         else:
-            arguments.append(read_value(field, place))
-            types.append(arguments[-1].type)
-        place += len(field) + 1
+            read.append(read_value(*argument))
+            types.append(read[-1].type)
     if any(type not in taken for type, taken in zip(types, builtin.takes)):
         raise Refused(4)
     if not builtin.together(*types):
         raise Refused(5)
     if name == 'bitcast' and len({type.lane_count * BYTES[type.scalar] for type in types}) > 1:
         raise Refused(6)
-    return builtin.fold(*arguments)
+    return builtin.fold(*read)
+
+
+# ---- Q-8: calls nested on one line
+
+WRONG_GRAMMAR, TOO_DEEP, DEEPEST = 12, 13, 8
+
+
+class Call(NamedTuple):
+    name: str
+    arguments: list  # calls, and spellings with their places
+
+    def depth(self):
+        return 1 + max(argument.depth() if isinstance(argument, Call) else 0 for argument in self.arguments)
+
+
+def read_argument(line, at, is_type):
+    """What stands in the line after `at` bytes, a call or a spelling with its place, and where it ends."""
+    word = re.compile(r'[^\t;()]*').match(line, at).group()
+    end = at + len(word)
+    if line[end:end + 1] == '(' and not is_type and re.fullmatch('[A-Za-z0-9]+', word):
+        return read_call(word, line, end)
+    if not word:
+        raise Refused(WRONG_GRAMMAR)
+    return (word, at + 1), end
+
+
+def read_call(name, line, at):
+    """The call of that name, whose bracket opens after `at` bytes, and where it ends."""
+    arguments = []
+    while line[at:at + 1] == (';' if arguments else '('):
+        argument, at = read_argument(line, at + 1, name == 'bitcast' and not arguments)
+        arguments.append(argument)
+    if line[at:at + 1] != ')':
+        raise Refused(WRONG_GRAMMAR)
+    return Call(name, arguments), at + 1
+
+
+def fold_call(call, builtins):
+    arguments = [fold_inner(argument, builtins) if isinstance(argument, Call) else argument for argument in call.arguments]
+    return judge(call.name, arguments, builtins)
+
+
+def fold_inner(call, builtins):
+    values = fold_call(call, builtins)
+    if call.name == 'frexp':
+        raise Refused(4)
+    return values[0]
+
+
+def fold(line, builtins):
+    """The values that a line is answered by."""
+    if len(line) > LONGEST_LINE:
+        raise Refused(7)
+    if '(' in line:
+        call, end = read_argument(line, 0, False)
+        if not isinstance(call, Call) or end != len(line):
+            raise Refused(WRONG_GRAMMAR)
+        if call.depth() > DEEPEST:
+            raise Refused(TOO_DEEP)
+        return fold_call(call, builtins)
+    name, *fields = line.split('\t')
+    places = [len(name) + 2 + sum(len(field) + 1 for field in fields[:index]) for index in range(len(fields))]
+    return judge(name, list(zip(fields, places)), builtins)
 
 
 def answer(line, builtins):

@@ -2,8 +2,10 @@
 use answers::LineAnswer;
 use cutting::MOST_BYTES;
 use engines::Engine;
+use nested::Folded;
 use readings::Reading;
 ghost use mathlib.Core.Path.{_≡_};
+ghost use mathlib.Core.Bool.{false};
 ghost use Prim.Native.Nat.{_≤_};
 ghost use lib.ListN.{length};
 ghost use Rattle.buffers.specs.Memory.{put};
@@ -11,8 +13,10 @@ ghost use Rattle.calls.specs.Table.{builtinAt};
 ghost use Rattle.calls.specs.Words as Words;
 ghost use Rattle.spelling.specs.Hex.{DigitTable};
 ghost use Rattle.fields.specs.Fields.{fieldAt, argumentCount};
+ghost use Rattle.nesting.specs.Grammar.{isNested};
+ghost use Rattle.answers.specs.Answers.{spelledIn};
 ghost use Rattle.lines.specs.Line.{castCall, plainCall, isCast, callOf, lineAnswer, writtenIn};
-ghost use Rattle.lines.specs.Program.{misspelledLine};
+ghost use Rattle.lines.specs.Program.{misspelledLine, placedIn};
 
 // ---- the call that a line spells, as words
 
@@ -84,6 +88,43 @@ fn misspelled(line: &[u8], end: usize, cast: bool) -> LineAnswer
     }
 }
 
+// What a line gives, written at the start of the lent memory.
+fn put_folded(out: &mut [u8], x: Folded) -> LineAnswer
+    ensures { λ r. ⌜ (r ≡ placedIn (length (now (out .entry))) x)
+        × (now (out .exit) ≡ put (now (out .entry)) 0 (spelledIn (length (now (out .entry))) (x .answer))) ⌝ }
+{
+    let a = x.answer;
+    let first = a.first;
+    let second = a.second;
+    let mut w: [u64; 35] = [0; 35];
+    words::put_value(&mut w, 0, first);
+    words::put_value(&mut w, 17, second);
+    let r = answers::put_answer(out, a.refusal, &w);
+    LineAnswer {
+        refusal: r.refusal,
+        len: r.len,
+        place: x.place,
+    }
+}
+
+// A line whose arguments are parted by tabs.
+fn fold_fields(reading: Reading, engine: Engine, line: &[u8], out: &mut [u8]) -> LineAnswer
+    requires { ⌜ (length (now line) ≤ 400) × (isNested (now line) ≡ false) ⌝ }
+    ensures { λ r. ⌜ (r ≡ lineAnswer reading (length (now (out .entry))) (now (line .entry)))
+        × (now (out .exit) ≡ put (now (out .entry)) 0 (writtenIn reading (length (now (out .entry))) (now (line .entry)))) ⌝ }
+{
+    let mut call: [u64; 54] = [0; 54];
+    let name = fields::field(line, 0);
+    let cast = buffers::same(b"bitcast", name);
+    put_call(&mut call, line, name, cast);
+    let mut answer: [u64; 35] = [0; 35];
+    let refusal = builtins::fold_in(reading, engine, &call, &mut answer);
+    if refusal == 3 {
+        return misspelled(line, name.len(), cast);
+    }
+    answers::put_answer(out, refusal, &answer)
+}
+
 // Folds a line in the reading and by the engine that the caller chooses. The answer is written at the start of the lent memory, without a newline; a refusal leaves the memory as it is.
 pub fn fold_line_in(reading: Reading, engine: Engine, line: &[u8], out: &mut [u8]) -> LineAnswer
     ensures { λ r. ⌜ (r ≡ lineAnswer reading (length (now (out .entry))) (now (line .entry)))
@@ -96,16 +137,10 @@ pub fn fold_line_in(reading: Reading, engine: Engine, line: &[u8], out: &mut [u8
             place: 0,
         };
     }
-    let mut call: [u64; 54] = [0; 54];
-    let name = fields::field(line, 0);
-    let cast = buffers::same(b"bitcast", name);
-    put_call(&mut call, line, name, cast);
-    let mut answer: [u64; 35] = [0; 35];
-    let refusal = builtins::fold_in(reading, engine, &call, &mut answer);
-    if refusal == 3 {
-        return misspelled(line, name.len(), cast);
+    if nesting::is_nested(line) {
+        return put_folded(out, nested::fold(reading, engine, line));
     }
-    answers::put_answer(out, refusal, &answer)
+    fold_fields(reading, engine, line, out)
 }
 
 // In the crate's reading, by arithmetic.

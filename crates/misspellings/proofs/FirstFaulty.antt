@@ -161,7 +161,7 @@ number TypeSpelling = inr (omega arith, omega arith)
 number Lanes = inr (omega arith, omega arith)
 number Digit = inr (omega arith, omega arith)
 
-field-number : (cast : Bool) (s : List ℕ) → (fieldFault cast s .refusal ≡ 0) ⊎ ((9 ≤ fieldFault cast s .refusal) × (fieldFault cast s .refusal ≤ 11))
+pub field-number : (cast : Bool) (s : List ℕ) → (fieldFault cast s .refusal ≡ 0) ⊎ ((9 ≤ fieldFault cast s .refusal) × (fieldFault cast s .refusal ≤ 11))
 unfolding fieldFault typeFault
 field-number true s = by (isType (kindOf s))
   where

@@ -11,7 +11,7 @@ pub struct Misspelling {
     pub place: usize,
 }
 
-fn misspelled(refusal: u8, place: usize) -> Misspelling
+pub fn misspelled(refusal: u8, place: usize) -> Misspelling
     ensures { λ r. ⌜ r ≡ misspelled refusal place ⌝ }
 {
     Misspelling {
@@ -22,7 +22,7 @@ fn misspelled(refusal: u8, place: usize) -> Misspelling
 
 // ---- a field
 
-fn type_fault(s: &[u8]) -> Misspelling
+pub fn type_fault(s: &[u8]) -> Misspelling
     ensures { λ r. ⌜ r ≡ typeFault (now (s .entry)) ⌝ }
 {
     if typenames::type_of(s) == 0 {
@@ -50,7 +50,7 @@ fn field_fault(cast: bool, s: &[u8]) -> Misspelling
 // ---- a line
 
 // A field's fault in the line, where the field's first byte stands at `at`.
-fn in_line(at: usize, m: Misspelling) -> Misspelling
+pub fn in_line(at: usize, m: Misspelling) -> Misspelling
     requires { ⌜ (at + m .place ≤ 1000) × (1 ≤ at) ⌝ }
     ensures { λ r. ⌜ r ≡ inLine at m ⌝ }
 {

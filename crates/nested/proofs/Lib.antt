@@ -1,0 +1,4 @@
+pub mod Folds
+pub mod Three
+pub mod Sounds
+pub mod SpellOut

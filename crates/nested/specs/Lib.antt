@@ -1,0 +1,3 @@
+pub mod Nested
+pub mod Laws
+pub mod Program

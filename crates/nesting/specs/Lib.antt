@@ -1,0 +1,4 @@
+pub mod Grammar
+pub mod Read
+pub mod Laws
+pub mod Program
