@@ -1,2 +1,3 @@
 pub mod Misspelt
 pub mod Written
+pub mod Flat

@@ -44,7 +44,7 @@ use Rattle.lines.specs.Laws.{Told}
 
 -- ---- arguments that are rightly spelled
 
-no-fault : (f : Fault) → faultNumber f ≡ 0 → f ≡ Nothing
+pub no-fault : (f : Fault) → faultNumber f ≡ 0 → f ≡ Nothing
 no-fault Nothing e = refl
 no-fault TypeSpelling e = absurd (omega arith)
 no-fault Lanes e = absurd (omega arith)
