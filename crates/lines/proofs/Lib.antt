@@ -1,3 +1,4 @@
 pub mod Misspelt
 pub mod Written
 pub mod Tabbed
+pub mod Flat

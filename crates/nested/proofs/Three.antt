@@ -31,7 +31,7 @@ use Rattle.misspellings.specs.Misspellings.{misspelled, rightly, typeFault, fie
 
 -- ---- what is rightly spelled
 
-no-fault : (f : Fault) → faultNumber f ≡ 0 → f ≡ Nothing
+pub no-fault : (f : Fault) → faultNumber f ≡ 0 → f ≡ Nothing
 no-fault Nothing e = refl
 no-fault TypeSpelling e = absurd (omega arith)
 no-fault Lanes e = absurd (omega arith)
