@@ -1,3 +1,4 @@
+pub mod Fours
 pub mod Ways
 pub mod Results
 pub mod Digits

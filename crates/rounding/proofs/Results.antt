@@ -2,7 +2,7 @@
 -- so few digits before the point that the result fits the format, far below the infinity. Assumes nothing.
 use mathlib.Core.Path.{_≡_, refl, sym, ap, ap₂, _∙_}
 use mathlib.Core.Logic.{_⊎_, inl, inr}
-use Prim.Native.Nat.{ℕ, suc, _+_, _-_, _*_, _^_, _≤_, _<_}
+use Prim.Native.Nat.{ℕ, suc, _+_, _-_, _*_, _%_, _^_, _≤_, _<_}
 use native.Mathlib.Nat.{le-trans, le-of-eq, lt-of-lt-of-le, lt-of-le-of-lt, mul-assoc, add-comm, mul-le-mul, mul-le-mul-right, mul-lt-mul-of-pos-right, div-lt-iff-lt-mul, two-pow-succ}
 use native.Mathlib.Omega.{arith}
 use mathlib.Core.Bool.{Bool, cond}
@@ -32,6 +32,7 @@ field f = 2 ^ (f .exponent - 1) - 2
 pub record Fields (f : Format) : Type 0 where
   pub weight : 2 ^ (f .exponent - 1) ≡ field f + 2
   pub low : 2 ≤ field f
+  pub even : field f % 2 ≡ 0
   pub range : f .fraction < field f + 2
   pub lowest-is : lowest f ≡ field f + f .fraction
   pub infinity-is : infinity f ≡ 2 * (field f * hidden f) + 3 * hidden f
@@ -42,9 +43,10 @@ fields-of f d =
     let w = 2 ^ (e - 1) in
     let four : 4 ≤ w = pow-mono {i = 2} {j = e - 1} (omega (arith, d .exponent)) in
     let W : w ≡ field f + 2 = omega arith in
+    let half-weight : w ≡ 2 ^ (e - 2) + 2 ^ (e - 2) = ap (λ (x : ℕ). 2 ^ x) (omega (arith, d .exponent)) ∙ two-pow-succ (e - 2) in
     let next : e ≡ suc (e - 1) = omega (arith, d .exponent) in
     let T : top f ≡ (w + w) * hidden f = ap (λ (x : ℕ). x * hidden f) (ap (λ (x : ℕ). 2 ^ x) next ∙ two-pow-succ (e - 1)) in
-    record { weight = W; low = omega arith; range = omega (arith, d .range); lowest-is = omega arith; infinity-is = omega (arith, top-is f, ap (λ (x : ℕ). x * hidden f) W) }
+    record { weight = W; low = omega arith; even = omega (arith, half-weight); range = omega (arith, d .range); lowest-is = omega arith; infinity-is = omega (arith, top-is f, ap (λ (x : ℕ). x * hidden f) W) }
 
 pub power-split : (n k d : ℕ) → n ≡ k + d → 2 ^ n ≡ 2 ^ d * 2 ^ k
 power-split n k d e = ap (λ (x : ℕ). 2 ^ x) (e ∙ add-comm k d) ∙ pow-add 2 d k
@@ -96,9 +98,9 @@ module _ (f : Format) (w : Way) (s : Bool) (m : ℕ) where
   unfolding wholeMagnitude
   whole-exact = elim stays-or-few [ inl e ↦ ap (units f) (stays-as e) ∙ sym e | inr l ↦ few-exact f made l ]
 
-  pub whole-finite : Deep f → m < infinity f → wholeMagnitude w s f m < infinity f
+  pub whole-below : Deep f → (b : ℕ) → infinity f ≤ b → m < b → wholeMagnitude w s f m < b
   unfolding wholeMagnitude
-  whole-finite d h = elim stays-or-few [ inl e ↦ lt-of-le-of-lt (le-of-eq (stays-as e)) h | inr l ↦ few-finite f d made l ]
+  whole-below d b i h = elim stays-or-few [ inl e ↦ lt-of-le-of-lt (le-of-eq (stays-as e)) h | inr l ↦ lt-of-lt-of-le (few-finite f d made l) i ]
 
 -- ---- the definition by its cases
 module _ (f : Format) (w : Way) (x : ℕ) where
@@ -117,8 +119,11 @@ module _ (f : Format) (d : Deep f) (w : Way) (x : ℕ) (h : Finite f x) where
   abbrev r : ℕ
   r = wholeMagnitude w s f (magnitude f x)
 
+  finite : r < infinity f
+  finite = whole-below f w s (magnitude f x) d (infinity f) (le-of-eq refl) h
+
   below : r < top f
-  below = omega (arith, whole-finite f w s (magnitude f x) d h, infinity-below f)
+  below = omega (arith, finite, infinity-below f)
 
   pub magnitude-kept : magnitude f (whole w f x) ≡ r
   magnitude-kept = ap (magnitude f) (whole-is f w x h) ∙ magnitude-signed f s r below
@@ -127,7 +132,7 @@ module _ (f : Format) (d : Deep f) (w : Way) (x : ℕ) (h : Finite f x) where
   sign-kept = ap (negative f) (whole-is f w x h) ∙ negative-signed f s r below
 
   pub result-finite : Finite f (whole w f x)
-  result-finite = lt-of-le-of-lt (le-of-eq magnitude-kept) (whole-finite f w s (magnitude f x) d h)
+  result-finite = lt-of-le-of-lt (le-of-eq magnitude-kept) finite
 
   pub result-below : whole w f x < 2 * top f
   result-below = lt-of-le-of-lt (le-of-eq (whole-is f w x h)) (signed-below f s r below)

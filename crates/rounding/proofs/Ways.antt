@@ -1,12 +1,12 @@
--- A size made whole: at whole numbers, below 1, and where size and unit share a factor; how near it stands, by the remainder; and by how much a number
--- stands above its floor. Assumes nothing.
+-- A size made whole: at whole numbers, below 1, and where size and unit share a factor; by what the program adds and cuts off; how near it stands, by
+-- the remainder; and by how much a number stands above its floor. Assumes nothing.
 use mathlib.Core.Path.{_≡_, refl, sym, ap, _∙_}
 use mathlib.Core.Logic.{inl, inr}
 use Prim.Native.Nat.{ℕ, suc, _+_, _-_, _*_, _/_, _%_, _≤_, _<_}
-use native.Mathlib.Nat.{lt-of-not-le, mul-assoc, mul-le-mul-right, mul-lt-mul-of-pos-right, mul-pos, le-mul-of-pos-right, mod-lt, mod-eq-of-lt, div-eq-of-lt, div-add-mod', mul-div-mul-right, mul-div-cancel, mul-mod-left, zero-add, add-zero}
+use native.Mathlib.Nat.{le-of-eq, lt-of-le-of-lt, lt-of-not-le, mul-assoc, mul-le-mul-right, mul-lt-mul-of-pos-right, mul-pos, le-mul-of-pos-right, mod-le, mod-lt, mod-eq-of-lt, mul-add-mod-self-right, div-eq-of-lt, div-add-mod', mul-div-mul-right, mul-div-cancel, mul-mod-left, zero-add, add-zero}
 use native.Mathlib.Omega.{arith}
 use mathlib.Core.Bool.{Bool, true, false, cond, not, _&&_}
-use lib.Dec.{leb, ltb}
+use lib.Dec.{leb, ltb, eqb}
 use borrow.Author.Tests.{lt-ltb, le-ltb, le-leb, lt-leb}
 use Rattle.half.specs.Nearest.{apart}
 use Rattle.half.proofs.Closest.{split}
@@ -14,7 +14,7 @@ use Rattle.floats.proofs.Sums.{sub-mul}
 use Rattle.rounding.specs.declared.Way.{Way}
 use Rattle.rounding.specs.declared.Way.the-variants.{Floor, Ceil, Trunc, Round}
 use Rattle.rounding.specs.Rounding.{rises, wholeSize, above}
-use Rattle.rounding.specs.Program.{lift}
+use Rattle.rounding.specs.Program.{isAway, isRound, lift}
 
 pub same-test : (a b c d : ℕ) → (a < b → c < d) → (c < d → a < b) → ltb a b ≡ ltb c d
 same-test a b c d h k =
@@ -24,11 +24,11 @@ same-test a b c d h k =
     ]
 
 -- what a rise depends on: whether there is a rest, and on which side of the middle it stands
-pub rises-same : (w : Way) (s : Bool) (n r c x d : ℕ) → ltb 0 r ≡ ltb 0 x → ltb c (r * 2 + n % 2) ≡ ltb d (x * 2 + n % 2) → rises w s n r c ≡ rises w s n x d
-rises-same Floor s n r c x d i j = ap (λ (b : Bool). s && b) i
-rises-same Ceil s n r c x d i j = ap (λ (b : Bool). not s && b) i
-rises-same Trunc s n r c x d i j = refl
-rises-same Round s n r c x d i j = j
+pub rises-same : (w : Way) (s : Bool) (n r c o x d : ℕ) → ltb 0 r ≡ ltb 0 x → ltb c (r * 2 + n % 2) ≡ ltb d (x * 2 + o % 2) → rises w s n r c ≡ rises w s o x d
+rises-same Floor s n r c o x d i j = ap (λ (b : Bool). s && b) i
+rises-same Ceil s n r c o x d i j = ap (λ (b : Bool). not s && b) i
+rises-same Trunc s n r c o x d i j = refl
+rises-same Round s n r c o x d i j = j
 
 pub rises-none : (w : Way) (s : Bool) (n c : ℕ) → 0 < c → rises w s n 0 c ≡ false
 rises-none Floor true n c C = refl
@@ -71,16 +71,20 @@ module _ (w : Way) (s : Bool) where
     pub size-scaled : (a c : ℕ) → wholeSize w s (a * z) (c * z) ≡ wholeSize w s a c
     unfolding wholeSize
     size-scaled a c =
-        rw (mul-div-mul-right a c Z, mod-scaled a c z Z, rises-same w s (a / c) (a % c * z) (c * z) (a % c) c (some (a % c)) (middle (a % c) c (a / c % 2) (mod-lt (a / c) (omega arith))))
+        rw (mul-div-mul-right a c Z, mod-scaled a c z Z, rises-same w s (a / c) (a % c * z) (c * z) (a / c) (a % c) c (some (a % c)) (middle (a % c) c (a / c % 2) (mod-lt (a / c) (omega arith))))
 
--- ---- what is lifted reaches c where it goes up
-pub lift-most : (w : Way) (s : Bool) (n c : ℕ) → 0 < c → lift w s n c < c
-lift-most Floor true n c C = omega arith
-lift-most Floor false n c C = C
-lift-most Ceil true n c C = C
-lift-most Ceil false n c C = omega arith
-lift-most Trunc s n c C = C
-lift-most Round s n c C = omega arith
+-- ---- what is lifted reaches c where it goes up, and is cut off at the whole number
+halved : (b c : ℕ) → b < 2 → 0 < c → cond (eqb b 0) (c - 1) c / 2 ≡ (c - 1 + b) / 2
+halved b c B C =
+    elim (split b 1) [
+      | inl l ↦ let e : b ≡ 0 = omega arith in rw e (omega arith)
+      | inr g ↦ let e : b ≡ 1 = omega arith in rw e (omega arith)
+    ]
+
+pub lift-most : (nearest away : Bool) (n c : ℕ) → 0 < c → lift nearest away n c < c
+lift-most true away n c C = omega (arith, halved (n % 2) c (mod-lt n (omega arith)) C, mod-lt n {m = 2} (omega arith))
+lift-most false true n c C = omega arith
+lift-most false false n c C = C
 
 reached : (a b c d : ℕ) → (a ≤ b → c < d) → (c < d → a ≤ b) → leb a b ≡ ltb c d
 reached a b c d h k =
@@ -89,13 +93,33 @@ reached a b c d h k =
       | inr g ↦ elim (split b a) [ inl l ↦ lt-leb a b l ∙ sym (le-ltb c d g) | inr i ↦ absurd (omega (arith, h i)) ]
     ]
 
-pub lifted : (w : Way) (s : Bool) (n r c : ℕ) → r < c → leb c (r + lift w s n c) ≡ rises w s n r c
+pub lifted : (w : Way) (s : Bool) (n r c : ℕ) → r < c → leb c (r + lift (isRound w) (isAway w s) n c) ≡ rises w s n r c
 lifted Floor true n r c h = reached c (r + (c - 1)) 0 r (λ (l : c ≤ r + (c - 1)). omega arith) (λ (l : 0 < r). omega arith)
 lifted Floor false n r c h = lt-leb c (r + 0) (omega arith)
 lifted Ceil true n r c h = lt-leb c (r + 0) (omega arith)
 lifted Ceil false n r c h = reached c (r + (c - 1)) 0 r (λ (l : c ≤ r + (c - 1)). omega arith) (λ (l : 0 < r). omega arith)
-lifted Trunc s n r c h = lt-leb c (r + 0) (omega arith)
-lifted Round s n r c h = reached c (r + (c - 1 + n % 2) / 2) c (r * 2 + n % 2) (λ (l : c ≤ r + (c - 1 + n % 2) / 2). omega arith) (λ (l : c < r * 2 + n % 2). omega arith)
+lifted Trunc true n r c h = lt-leb c (r + 0) (omega arith)
+lifted Trunc false n r c h = lt-leb c (r + 0) (omega arith)
+lifted Round s n r c h =
+    rw (halved (n % 2) c (mod-lt n (omega arith)) (omega arith))
+    (reached c (r + (c - 1 + n % 2) / 2) c (r * 2 + n % 2) (λ (l : c ≤ r + (c - 1 + n % 2) / 2). omega arith) (λ (l : c < r * 2 + n % 2). omega arith))
+
+remainder : (a k r c : ℕ) → a ≡ k * c + r → r < c → a % c ≡ r
+remainder a k r c e h = ap (λ (x : ℕ). x % c) e ∙ mul-add-mod-self-right k c r ∙ mod-eq-of-lt h
+
+cut : (m l c : ℕ) → 0 < c → l < c → m + l - (m + l) % c ≡ m - m % c + cond (leb c (m % c + l)) c 0
+cut m l c C L =
+    elim (split (m % c + l) c) [
+      | inl h ↦ rw (lt-leb c (m % c + l) h, remainder (m + l) (m / c) (m % c + l) c (omega (arith, div-add-mod' m c)) h) (omega (arith, mod-le m c))
+      | inr h ↦
+          rw (le-leb c (m % c + l) h, remainder (m + l) (m / c + 1) (m % c + l - c) c (omega (arith, div-add-mod' m c)) (omega (arith, mod-lt m C)))
+          (omega (arith, mod-le m c))
+    ]
+
+pub lifted-cut : (w : Way) (s : Bool) (m c l : ℕ) → 0 < c → l ≡ lift (isRound w) (isAway w s) (m / c) c → m + l - (m + l) % c ≡ m - m % c + cond (rises w s (m / c) (m % c) c) c 0
+lifted-cut w s m c l C e =
+    cut m l c C (lt-of-le-of-lt (le-of-eq e) (lift-most (isRound w) (isAway w s) (m / c) c C))
+    ∙ ap (λ (b : Bool). m - m % c + cond b c 0) (ap (λ (x : ℕ). leb c (m % c + x)) e ∙ lifted w s (m / c) (m % c) c (mod-lt m C))
 
 -- ---- the whole number on the side of 0, the one away from it, and the nearer of the two
 module _ (a c : ℕ) (C : 0 < c) where

@@ -4,12 +4,12 @@ use half::power;
 use values::Scalar;
 ghost use mathlib.Core.Path.{_≡_};
 ghost use Prim.Native.Nat.{_+_, _-_, _^_, _≤_, _<_};
-ghost use Rattle.half.specs.Format.{f16, f32, infinity};
+ghost use Rattle.half.specs.Format.{f16, f32};
 ghost use Rattle.half.specs.Program.{format};
 ghost use Rattle.values.specs.Program.{four};
-ghost use Rattle.rounding.specs.Rounding.{rises, wholeMagnitude, whole, fract};
+ghost use Rattle.rounding.specs.Rounding.{whole, fract};
 ghost use Rattle.rounding.specs.Lanes.{wholeLane, fractLane};
-ghost use Rattle.rounding.specs.Program.{Sized, isFloor, isCeil, isRound, isAway, lift};
+ghost use Rattle.rounding.specs.Program.{Sized, outward, isAway, isRound, lift, MadeWhole};
 
 pub enum Way {
     Floor,
@@ -19,27 +19,25 @@ pub enum Way {
 }
 
 // ---- floor, ceil, trunc and round, by integers alone
+// All is worked out and one result chosen, with no jump, so that the four lanes of a value are worked out at once.
 
-fn is_floor(way: Way) -> bool
-    ensures { λ r. ⌜ r ≡ isFloor way ⌝ }
+// Which sign has every rest go up, away from 0: 1 the negative numbers', 0 the others', 2 none.
+fn outward(way: Way) -> u32
+    ensures { λ r. ⌜ r ≡ outward way ⌝ }
 {
     match way {
-        Way::Floor => true,
-        Way::Ceil => false,
-        Way::Trunc => false,
-        Way::Round => false,
+        Way::Floor => 1,
+        Way::Ceil => 0,
+        Way::Trunc => 2,
+        Way::Round => 2,
     }
 }
 
-fn is_ceil(way: Way) -> bool
-    ensures { λ r. ⌜ r ≡ isCeil way ⌝ }
+// Whether every rest goes up. Numbers of 32 bits are compared, as wide as the lanes.
+fn is_away(way: Way, negative: bool) -> bool
+    ensures { λ r. ⌜ r ≡ isAway way negative ⌝ }
 {
-    match way {
-        Way::Floor => false,
-        Way::Ceil => true,
-        Way::Trunc => false,
-        Way::Round => false,
-    }
+    choose(negative, 1, 0) == outward(way)
 }
 
 fn is_round(way: Way) -> bool
@@ -53,60 +51,50 @@ fn is_round(way: Way) -> bool
     }
 }
 
-// Whether every rest goes up, away from 0.
-fn is_away(way: Way, negative: bool) -> bool
-    ensures { λ r. ⌜ r ≡ isAway way negative ⌝ }
-{
-    (is_floor(way) & negative) | (is_ceil(way) & !negative)
-}
-
-// What is added to the rest so that just a rest that goes up reaches c. Chosen, not jumped to: a sign is not to be guessed.
-fn lift(way: Way, negative: bool, n: u32, c: u32) -> u32
-    requires { ⌜ (0 < c) × (c ≤ 0x8000_0000) ⌝ }
-    ensures { λ r. ⌜ r ≡ lift way negative n c ⌝ }
+// What is added so that just a rest of n + r / c that goes up reaches c.
+fn lift(nearest: bool, away: bool, n: u32, c: u32) -> u32
+    requires { ⌜ 0 < c ⌝ }
+    ensures { λ r. ⌜ r ≡ lift nearest away n c ⌝ }
 {
     choose(
-        is_round(way),
-        (c - 1 + n % 2) / 2,
-        choose(is_away(way, negative), c - 1, 0),
+        nearest,
+        choose(n % 2 == 0, c - 1, c) / 2,
+        choose(away, c - 1, 0),
     )
 }
 
-// Whether n + r / c goes up to n + 1, away from 0.
-fn goes_up(way: Way, negative: bool, n: u32, r: u32, c: u32) -> bool
-    requires { ⌜ (r < c) × (c ≤ 0x8000_0000) ⌝ }
-    ensures { λ b. ⌜ b ≡ rises way negative n r c ⌝ }
+// How far a stands beyond b: 0 where it does not.
+fn beyond(a: u32, b: u32) -> u32
+    ensures { λ r. ⌜ r ≡ a - b ⌝ }
 {
-    c <= r + lift(way, negative, n, c)
+    choose(b < a, a, b) - b
 }
 
 // From 1 up `past` digits stand before the point beside the leading one, and where none stands behind it nothing is cut off. Else the rest is, and a carry goes
-// into the exponent's field.
-fn from_one(way: Way, negative: bool, e: u32, p: u32, m: u32) -> u32
-    requires { ⌜ Sized e p × (m < infinity (format e p)) × (2 ^ (e + p - 1) - 2 ^ p ≤ m) ⌝ }
-    ensures { λ r. ⌜ r ≡ wholeMagnitude way negative (format e p) m ⌝ }
+// into the exponent's field. Odd from even is told by the last digit before the point; where that is the leading one, which is not stored, by the field of 1,
+// which is odd.
+fn from_one(nearest: bool, away: bool, e: u32, p: u32, m: u32) -> u32
+    requires { ⌜ Sized e p × (m < 2 ^ (e + p)) ⌝ }
+    ensures { λ r. ⌜ (2 ^ (e + p - 1) - 2 ^ p ≤ m → MadeWhole nearest away e p m r) ⌝ }
 {
     let hidden = power(p);
     let one = power(e + p - 1) - hidden;
-    let past = (m - one) / hidden;
-    let digits = (m - one) % hidden + hidden;
-    let point = power(p - choose(past < p, past, p));
-    let rest = digits % point;
-    let up = goes_up(way, negative, digits / point, rest, point);
-    m - rest + choose(up, point, 0)
+    let past = beyond(m, one) / hidden;
+    let point = power(beyond(p, past));
+    let lifted = m + lift(nearest, away, m / point, point);
+    lifted - lifted % point
 }
 
-// Below 1 sizes compare as their magnitudes do, and that of 0.5 stands one exponent's field lower. Both are worked out and one chosen: no jump that would be
-// guessed wrong.
-fn whole_magnitude(way: Way, negative: bool, e: u32, p: u32, m: u32) -> u32
-    requires { ⌜ Sized e p × (m < infinity (format e p)) ⌝ }
-    ensures { λ r. ⌜ r ≡ wholeMagnitude way negative (format e p) m ⌝ }
+// Below 1 sizes compare as their magnitudes do, and that of 0.5 stands one exponent's field lower.
+fn whole_magnitude(nearest: bool, away: bool, e: u32, p: u32, m: u32) -> u32
+    requires { ⌜ Sized e p × (m < 2 ^ (e + p)) ⌝ }
+    ensures { λ r. ⌜ MadeWhole nearest away e p m r ⌝ }
 {
     let hidden = power(p);
     let one = power(e + p - 1) - hidden;
-    let r = choose(m < one, m, 0);
-    let below = choose(goes_up(way, negative, 0, r, 2 * (one - hidden)), one, 0);
-    let from = from_one(way, negative, e, p, choose(m < one, one, m));
+    let c = 2 * (one - hidden);
+    let below = choose(c <= m + lift(nearest, away, 0, c), one, 0);
+    let from = from_one(nearest, away, e, p, m);
     choose(m < one, below, from)
 }
 
@@ -119,33 +107,37 @@ fn whole_in(way: Way, e: u32, p: u32, x: u32) -> u32
     let top = power(e + p);
     let infinity = top - hidden;
     let m = x % top;
-    if infinity <= m {
-        return choose(infinity < m, infinity + hidden / 2, x);
-    }
-    choose(top <= x, top, 0) + whole_magnitude(way, top <= x, e, p, m)
+    let negative = top <= x;
+    let r = choose(negative, top, 0)
+        + whole_magnitude(is_round(way), is_away(way, negative), e, p, m);
+    choose(
+        infinity < m,
+        infinity + hidden / 2,
+        choose(infinity <= m, x, r),
+    )
 }
 
-pub fn whole_lane(way: Way, s: Scalar, x: u32) -> u32
-    ensures { λ r. ⌜ r ≡ wholeLane way s x ⌝ }
+// The formats are told apart once for the four lanes.
+pub fn whole(way: Way, s: Scalar, x: [u32; 4]) -> [u32; 4]
+    ensures { λ r. ⌜ r ≡ four (wholeLane way s) x ⌝ }
 {
     match s {
         Scalar::Boolean => x,
         Scalar::I32 => x,
         Scalar::U32 => x,
-        Scalar::F32 => whole_in(way, 8, 23, x),
-        Scalar::F16 => whole_in(way, 5, 10, x),
+        Scalar::F32 => [
+            whole_in(way, 8, 23, x[0]),
+            whole_in(way, 8, 23, x[1]),
+            whole_in(way, 8, 23, x[2]),
+            whole_in(way, 8, 23, x[3]),
+        ],
+        Scalar::F16 => [
+            whole_in(way, 5, 10, x[0]),
+            whole_in(way, 5, 10, x[1]),
+            whole_in(way, 5, 10, x[2]),
+            whole_in(way, 5, 10, x[3]),
+        ],
     }
-}
-
-pub fn whole(way: Way, s: Scalar, x: [u32; 4]) -> [u32; 4]
-    ensures { λ r. ⌜ r ≡ four (wholeLane way s) x ⌝ }
-{
-    [
-        whole_lane(way, s, x[0]),
-        whole_lane(way, s, x[1]),
-        whole_lane(way, s, x[2]),
-        whole_lane(way, s, x[3]),
-    ]
 }
 
 // ---- fract
@@ -165,25 +157,24 @@ fn fract_f16(x: u32) -> u32
     half::f32_to_f16(fract_f32(half::single_of(x))) as u32
 }
 
-pub fn fract_lane(s: Scalar, x: u32) -> u32
-    ensures { λ r. ⌜ r ≡ fractLane s x ⌝ }
+pub fn fract(s: Scalar, x: [u32; 4]) -> [u32; 4]
+    ensures { λ r. ⌜ r ≡ four (fractLane s) x ⌝ }
 {
     match s {
         Scalar::Boolean => x,
         Scalar::I32 => x,
         Scalar::U32 => x,
-        Scalar::F32 => fract_f32(x),
-        Scalar::F16 => fract_f16(x),
+        Scalar::F32 => [
+            fract_f32(x[0]),
+            fract_f32(x[1]),
+            fract_f32(x[2]),
+            fract_f32(x[3]),
+        ],
+        Scalar::F16 => [
+            fract_f16(x[0]),
+            fract_f16(x[1]),
+            fract_f16(x[2]),
+            fract_f16(x[3]),
+        ],
     }
-}
-
-pub fn fract(s: Scalar, x: [u32; 4]) -> [u32; 4]
-    ensures { λ r. ⌜ r ≡ four (fractLane s) x ⌝ }
-{
-    [
-        fract_lane(s, x[0]),
-        fract_lane(s, x[1]),
-        fract_lane(s, x[2]),
-        fract_lane(s, x[3]),
-    ]
 }

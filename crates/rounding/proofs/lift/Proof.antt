@@ -5,11 +5,7 @@ use Rattle.rounding.proofs.lift.Statement.{statement}
 use Rattle.rounding.proofs.lift.Tie as tie
 
 returns : tie.Need-returns
-returns c = c .choose2 .ensures ∙ rw (c .before .choose .ensures, c .before .before .is-away .ensures, c .before .before .before .is-round .ensures)
+returns c = c .choose3 .ensures ∙ rw (c .before .choose2 .ensures, c .before .before .choose .ensures)
 
 pub lift-spec : {M : Type 1} → statement M
-lift-spec =
-    tie.close
-    (tie.spec
-    (λ c κs. search needs) (λ c. search needs) (λ c. search needs) (λ c κs. search needs) (λ c. search needs) (λ c κs. search needs) (λ c κs. search needs)
-    returns)
+lift-spec = tie.close (tie.spec (λ c. search needs) (λ c κs. search needs) (λ c. search needs) (λ c κs. search needs) (λ c κs. search needs) returns)

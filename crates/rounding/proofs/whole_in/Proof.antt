@@ -1,17 +1,19 @@
--- `rounding::whole_in` meets its contract: its numbers are the format's, so that each branch is a case of the definition, and a finite result leaves room
--- for the sign. Assumes nothing.
+-- `rounding::whole_in` meets its contract: its numbers are the format's, so that what it chooses is the definition's case, and every magnitude made whole leaves
+-- room for the sign. Assumes nothing.
 use borrow.Author.Needs.{needs}
-use mathlib.Core.Path.{_≡_, sym, _∙_}
-use Prim.Native.Nat.{ℕ, _+_, _-_, _^_, _≤_, _<_}
-use native.Mathlib.Nat.{le-trans, le-of-eq, lt-of-lt-of-le}
+use mathlib.Core.Path.{_≡_, _∙_}
+use mathlib.Core.Bool.{Bool, true, false, cond}
+use Prim.Native.Nat.{ℕ, _+_, _-_, _%_, _^_, _≤_, _<_}
+use native.Mathlib.Nat.{le-trans, le-of-eq, lt-of-lt-of-le, mod-lt}
 use native.Mathlib.Omega.{arith}
+use lib.Dec.{leb}
 use lib.Pow.{pow-pos, pow-mono, pow-add}
 use Rattle.half.specs.Format.{hidden, top, infinity}
 use Rattle.half.specs.Program.{format}
-use Rattle.half.proofs.Signs.{top-is}
-use Rattle.rounding.specs.Laws.{Finite}
+use Rattle.half.proofs.Signs.{top-is, infinity-below}
+use Rattle.rounding.specs.Rounding.{wholeMagnitude, whole}
 use Rattle.rounding.specs.Program.{Sized}
-use Rattle.rounding.proofs.Results.{whole-past, whole-is, result-below}
+use Rattle.rounding.proofs.Results.{whole-below}
 use Rattle.rounding.proofs.whole_in.Statement.{statement}
 use Rattle.rounding.proofs.whole_in.Tie as tie
 
@@ -31,31 +33,35 @@ numbers e p h t z i g =
 numbers-at : (c : tie.After-power2) → Numbers (c .before .before .args .e) (c .before .before .args .p) (c .before .power .result) (c .power2 .result)
 numbers-at c = numbers (c .before .before .args .e) (c .before .before .args .p) (c .before .power .result) (c .power2 .result) (c .before .before .pre) (c .before .power .ensures) (c .power2 .ensures)
 
-returns : tie.Need-returns
-returns c =
-    let a = c .before .before .before .before .args in
-    let N = numbers-at (c .before .before) in
-    c .choose .ensures ∙ rw (N .infinity-is, N .top-is, N .hidden-is) (sym (whole-past (format (a .e) (a .p)) (a .way) (a .x) (rw (N .infinity-is, N .top-is) at (c .before .if1 .taken))))
-
 whole-magnitude-requires : tie.Need-whole-magnitude-requires
-whole-magnitude-requires c κs = (c .before .before .before .before .pre, lt-of-lt-of-le (c .before .if1 .left) (le-of-eq (numbers-at (c .before .before) .infinity-is)))
+whole-magnitude-requires c κs =
+    let t = c .before .before .before .power2 in
+    (c .before .before .before .before .before .pre, lt-of-lt-of-le (mod-lt _ (omega (arith, numbers-at (c .before .before .before)))) (le-of-eq (t .ensures)))
 
-finite-at : (c : tie.After-whole-magnitude)
-    → let a = c .before .before .before .before .before .args in
-    Finite (format (a .e) (a .p)) (a .x)
-finite-at c =
-    let N = numbers-at (c .before .before .before) in
-    rw (N .infinity-is, N .top-is) at (c .before .before .if1 .left)
+made : (c : tie.After-whole-magnitude)
+    → let a = c .before .before .before .before .before .before .args in
+    let t = c .before .before .before .before .power2 .result in
+    c .whole-magnitude .result ≡ wholeMagnitude (a .way) (leb t (a .x)) (format (a .e) (a .p)) (a .x % t)
+made c = c .whole-magnitude .ensures _ _ (c .before .before .is-round .ensures) (c .before .is-away .ensures)
 
-returns-2 : tie.Need-returns-2
-returns-2 c =
-    let a = c .before .before .before .before .before .args in
-    rw (c .before .choose2 .ensures, c .whole-magnitude .ensures, numbers-at (c .before .before .before) .top-is) (sym (whole-is (format (a .e) (a .p)) (a .way) (a .x) (finite-at c)))
+returns : tie.Need-returns
+unfolding whole
+returns c =
+    let N = numbers-at (c .before .before .before .before .before .before) in
+    c .choose3 .ensures ∙ rw (c .before .choose2 .ensures, made (c .before .before), c .before .before .before .before .before .choose .ensures, N .infinity-is, N .top-is, N .hidden-is)
 
-add-result : tie.Need-add-result
-add-result c =
-    let a = c .before .before .before .before .before .args in
-    omega (arith, numbers-at (c .before .before .before), returns-2 c, result-below (format (a .e) (a .p)) (c .before .before .before .before .before .pre .deep) (a .way) (a .x) (finite-at c))
+add-r : tie.Need-add-r
+add-r c =
+    let a = c .before .before .before .before .before .before .args in
+    let f = format (a .e) (a .p) in
+    let t = c .before .before .before .before .power2 .result in
+    let N = numbers-at (c .before .before .before .before) in
+    let r = whole-below f (a .way) (leb t (a .x)) (a .x % t) (c .before .before .before .before .before .before .pre .deep) (top f) (omega (arith, infinity-below f)) (lt-of-lt-of-le (mod-lt (a .x) (omega (arith, N))) (le-of-eq (N .top-is))) in
+    omega (arith, N, made c, r, chosen (leb t (a .x)) t (c .before .before .before .choose .result) (c .before .before .before .choose .ensures))
+  where
+    chosen : (b : Bool) (t r : ℕ) → r ≡ cond b t 0 → r ≤ t
+    chosen true t r e = le-of-eq e
+    chosen false t r e = omega arith
 
 pub whole-in-spec : {M : Type 1} → statement M
 whole-in-spec =
@@ -64,9 +70,8 @@ whole-in-spec =
     (λ c κs. search needs) (λ c. search needs) (λ c κs. search needs)
     (λ c. omega (arith, numbers-at c))
     (λ c. omega (arith, numbers-at c))
-    (λ c. search needs) (λ c κs. search needs)
-    returns
-    (λ c κs. search needs)
+    (λ c κs. search needs) (λ c κs. search needs) (λ c κs. search needs)
     whole-magnitude-requires
-    add-result
-    returns-2)
+    add-r
+    (λ c. search needs) (λ c κs. search needs) (λ c κs. search needs)
+    returns)
