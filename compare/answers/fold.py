@@ -566,78 +566,48 @@ def lane_faults(type, text, place):
         yield WRONG_LANE_COUNT, place - 1
 
 
-def judge(name, arguments, builtins):
-    """The values that a call is answered by. An argument is a spelling with its place in the line, or a value."""
-    if name not in builtins:
-        raise Refused(1)
-    builtin = builtins[name]
-    if len(arguments) != len(builtin.takes):
-        raise Refused(2)
-    read, types = [], []
-    for index, argument in enumerate(arguments):
-        if isinstance(argument, Value):
-            read.append(argument)
-            types.append(argument.type)
-        elif name == 'bitcast' and index == 0:
-            read.append(read_type(*argument))
-            types.append(read[-1])
-        else:
-            read.append(read_value(*argument))
-            types.append(read[-1].type)
-    if any(type not in taken for type, taken in zip(types, builtin.takes)):
-        raise Refused(4)
-    if not builtin.together(*types):
-        raise Refused(5)
-    if name == 'bitcast' and len({type.lane_count * BYTES[type.scalar] for type in types}) > 1:
-        raise Refused(6)
-    return builtin.fold(*read)
+class Spelling(NamedTuple):
+    """An argument that is spelled out, and the place of its first byte in the line."""
 
-
-# ---- Q-8: calls nested on one line
-
-WRONG_GRAMMAR, TOO_DEEP, DEEPEST = 12, 13, 8
+    text: str
+    place: int
 
 
 class Call(NamedTuple):
+    """A call of Q-8. Its arguments are spellings and calls."""
+
     name: str
-    arguments: list  # calls, and spellings with their places
+    arguments: list
 
     def depth(self):
-        return 1 + max(argument.depth() if isinstance(argument, Call) else 0 for argument in self.arguments)
+        return 1 + max((argument.depth() for argument in self.arguments if isinstance(argument, Call)), default=0)
 
 
-def read_argument(line, at, is_type):
-    """What stands in the line after `at` bytes, a call or a spelling with its place, and where it ends."""
-    word = re.compile(r'[^\t;()]*').match(line, at).group()
-    end = at + len(word)
-    if line[end:end + 1] == '(' and not is_type and re.fullmatch('[A-Za-z0-9]+', word):
-        return read_call(word, line, end)
-    if not word:
-        raise Refused(WRONG_GRAMMAR)
-    return (word, at + 1), end
+CALL = re.compile(r'([0-9A-Za-z]+)\(')
+SPELLING = re.compile(r'[^\t;()]+')
 
 
-def read_call(name, line, at):
-    """The call of that name, whose bracket opens after `at` bytes, and where it ends."""
-    arguments = []
-    while line[at:at + 1] == (';' if arguments else '('):
-        argument, at = read_argument(line, at + 1, name == 'bitcast' and not arguments)
-        arguments.append(argument)
-    if line[at:at + 1] != ')':
-        raise Refused(WRONG_GRAMMAR)
-    return Call(name, arguments), at + 1
-
-
-def fold_call(call, builtins):
-    arguments = [fold_inner(argument, builtins) if isinstance(argument, Call) else argument for argument in call.arguments]
-    return judge(call.name, arguments, builtins)
-
-
-def fold_inner(call, builtins):
-    values = fold_call(call, builtins)
-    if call.name == 'frexp':
-        raise Refused(4)
-    return values[0]
+def read_call(line, start):
+    """The call that starts there, and where it ends."""
+    opening = CALL.match(line, start)
+    if not opening:
+        raise Refused(12)
+    call, at = Call(opening[1], []), opening.end()
+    while True:
+        is_type = call.name == 'bitcast' and not call.arguments
+        if CALL.match(line, at) and not is_type:
+            argument, at = read_call(line, at)
+        else:
+            spelling = SPELLING.match(line, at)
+            if not spelling:
+                raise Refused(12)
+            argument, at = Spelling(spelling[0], at + 1), spelling.end()
+        call.arguments.append(argument)
+        mark, at = line[at:at + 1], at + 1
+        if mark == ')':
+            return call, at
+        if mark != ';':
+            raise Refused(12)
 
 
 def fold(line, builtins):
@@ -645,15 +615,47 @@ def fold(line, builtins):
     if len(line) > LONGEST_LINE:
         raise Refused(7)
     if '(' in line:
-        call, end = read_argument(line, 0, False)
-        if not isinstance(call, Call) or end != len(line):
-            raise Refused(WRONG_GRAMMAR)
-        if call.depth() > DEEPEST:
-            raise Refused(TOO_DEEP)
-        return fold_call(call, builtins)
-    name, *fields = line.split('\t')
-    places = [len(name) + 2 + sum(len(field) + 1 for field in fields[:index]) for index in range(len(fields))]
-    return judge(name, list(zip(fields, places)), builtins)
+        call, end = read_call(line, 0)
+        if end < len(line):
+            raise Refused(12)
+        if call.depth() > 8:
+            raise Refused(13)
+    else:
+        name, *fields = line.split('\t')
+        call, place = Call(name, []), len(name) + 2
+        for field in fields:
+            call.arguments.append(Spelling(field, place))
+            place += len(field) + 1
+    return fold_call(call, builtins)
+
+
+def fold_call(call, builtins, inner=False):
+    """The values that a call gives; the calls among its arguments are folded before it is judged."""
+    given = [
+        fold_call(argument, builtins, True)[0] if isinstance(argument, Call) else argument for argument in call.arguments
+    ]
+    if call.name not in builtins:
+        raise Refused(1)
+    builtin = builtins[call.name]
+    if len(given) != len(builtin.takes):
+        raise Refused(2)
+    arguments, types = [], []
+    for index, argument in enumerate(given):
+        if call.name == 'bitcast' and index == 0:
+            arguments.append(read_type(*argument))
+            types.append(arguments[-1])
+        else:
+            arguments.append(read_value(*argument) if isinstance(argument, Spelling) else argument)
+            types.append(arguments[-1].type)
+    if inner and call.name == 'frexp':
+        raise Refused(4)
+    if any(type not in taken for type, taken in zip(types, builtin.takes)):
+        raise Refused(4)
+    if not builtin.together(*types):
+        raise Refused(5)
+    if call.name == 'bitcast' and len({type.lane_count * BYTES[type.scalar] for type in types}) > 1:
+        raise Refused(6)
+    return builtin.fold(*arguments)
 
 
 def answer(line, builtins):
