@@ -70,6 +70,15 @@ module _ (R : Reading) (room : ℕ) (line : List ℕ) where
     misspelled-line z =
         refused-line (faultOf line .refusal) (faultOf line .place) (fields-line R line h n ∙ rw (eq-eqb _ 3 z)) (λ e. omega (arith, three-misspelled R line z .least))
 
+    -- where it is refused by another number, that one
+    pub refused-otherwise : (foldIn R (callOf line) .refusal ≡ 0 → ⊥) → (foldIn R (callOf line) .refusal ≡ 3 → ⊥)
+        → (record { refusal = foldIn R (callOf line) .refusal; len = 0; place = 0 } ≡ lineAnswer R room line) × (writtenIn R room line ≡ [])
+    unfolding answeredIn
+    refused-otherwise h z =
+        let w = Answer.in-refused room (foldIn R (callOf line)) h in
+        let q = answered-line z in
+        (sym (rw (w .0, w .1)) ∙ q .0, sym (q .1) ∙ w .1)
+
 pub answer-most : (R : Reading) (line : List ℕ) → length (answerOf R line) ≤ 311
 unfolding answerOf
 answer-most R line = Answer.values-most (lineOf R line)
