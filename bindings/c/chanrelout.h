@@ -17,8 +17,8 @@ extern "C" {
 
 /* ---- refusals
 
-   A call is answered, or refused with one of these numbers: the first that applies in the order 7, 12, 13, 1, 2, 3, 4,
-   5, 6, 8; a listing in the order 15, 17, 14, 8. In a line 9, 10 and 11 stand in the place of 3, the leftmost fault first.
+   A call is answered, or refused with one of these numbers: the first that applies in the order 7, 1, 2, 3, 4, 5, 6,
+   8; a listing in the order 15, 17, 14, 8. In a line 9, 10 and 11 stand in the place of 3, the leftmost fault first.
    A refusal leaves lent memory as it was. */
 
 enum chanrelout_refusal {
@@ -34,8 +34,6 @@ enum chanrelout_refusal {
     CHANRELOUT_FAULTY_TYPE = 9,     /* of a text: the type is misspelled, or no colon stands behind it */
     CHANRELOUT_FAULTY_LANES = 10,   /* a lane too few or too many */
     CHANRELOUT_FAULTY_DIGIT = 11,   /* a digit that is none, too few or too many digits, or a bool above 1 */
-    CHANRELOUT_NO_CALL = 12,        /* the line holds an opening bracket and is not one call */
-    CHANRELOUT_TOO_DEEP = 13,       /* the line's calls nest more than 8 deep */
     CHANRELOUT_NO_ANSWER_LINE = 14, /* a line of the listing is no answer line */
     CHANRELOUT_LISTING_TOO_LONG = 15, /* the listing has more than 32,768 bytes */
     CHANRELOUT_TOO_MANY_LINES = 17  /* the listing has more than 512 lines */
@@ -68,9 +66,7 @@ enum chanrelout_engine {
 /* ---- lines: a call spelled as text
 
    line     the call: the builtin's name and its arguments, a tab before each. A value is its type, a colon, and its
-            lanes in upper-case hex, parted by commas: 8 digits a lane, 4 for f16, 1 for bool. No newline. A line that
-            holds an opening bracket is a call with its arguments in brackets, parted by semicolons, each a value or a
-            call again, at most 8 deep: abs(min(i32:00000001;i32:FFFFFFFF)).
+            lanes in upper-case hex, parted by commas: 8 digits a lane, 4 for f16, 1 for bool. No newline.
    line_len its bytes. Above 400 it is refused.
    out      where the answer is written, without a newline and without a NUL. It must not overlap line.
    out_len  how many bytes may be written there. CHANRELOUT_LONGEST_ANSWER are always enough.

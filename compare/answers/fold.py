@@ -2,15 +2,14 @@
 """fold.py [--text] <lines >answers
 
 Answers each line of standard input as foldlines must, or with --text as foldtext must: a reading of docs/01-scope.md and
-of Q-1, Q-2, Q-3 and Q-8 in docs/02-change-requests.md, with docs/DECISIONS.md where they leave a choice, written from
-their words and not from the proved code. "01", "Q-1", "Q-2", "Q-3" and "Q-8" below are those.
+of Q-1, Q-2 and Q-3 in docs/02-change-requests.md, with docs/DECISIONS.md where they leave a choice, written from their
+words and not from the proved code. "01", "Q-1", "Q-2" and "Q-3" below are those.
 
 A lane is its bits. What is worked out is worked out in whole numbers and exact fractions, never in floats:
 `Format.number` says which number a float's bits are, and `Format.rounded` alone turns a number into a float's bits.
 """
 
 import math
-import re
 import sys
 from fractions import Fraction
 from typing import Callable, NamedTuple
@@ -566,94 +565,30 @@ def lane_faults(type, text, place):
         yield WRONG_LANE_COUNT, place - 1
 
 
-class Spelling(NamedTuple):
-    """An argument that is spelled out, and the place of its first byte in the line."""
-
-    text: str
-    place: int
-
-
-class Call(NamedTuple):
-    """A call of Q-8. Its arguments are spellings and calls."""
-
-    name: str
-    arguments: list
-
-    def depth(self):
-        return 1 + max((argument.depth() for argument in self.arguments if isinstance(argument, Call)), default=0)
-
-
-CALL = re.compile(r'([0-9A-Za-z]+)\(')
-SPELLING = re.compile(r'[^\t;()]+')
-
-
-def read_call(line, start):
-    """The call that starts there, and where it ends."""
-    opening = CALL.match(line, start)
-    if not opening:
-        raise Refused(12)
-    call, at = Call(opening[1], []), opening.end()
-    while True:
-        is_type = call.name == 'bitcast' and not call.arguments
-        if CALL.match(line, at) and not is_type:
-            argument, at = read_call(line, at)
-        else:
-            spelling = SPELLING.match(line, at)
-            if not spelling:
-                raise Refused(12)
-            argument, at = Spelling(spelling[0], at + 1), spelling.end()
-        call.arguments.append(argument)
-        mark, at = line[at:at + 1], at + 1
-        if mark == ')':
-            return call, at
-        if mark != ';':
-            raise Refused(12)
-
-
 def fold(line, builtins):
     """The values that a line is answered by."""
     if len(line) > LONGEST_LINE:
         raise Refused(7)
-    if '(' in line:
-        call, end = read_call(line, 0)
-        if end < len(line):
-            raise Refused(12)
-        if call.depth() > 8:
-            raise Refused(13)
-    else:
-        name, *fields = line.split('\t')
-        call, place = Call(name, []), len(name) + 2
-        for field in fields:
-            call.arguments.append(Spelling(field, place))
-            place += len(field) + 1
-    return fold_call(call, builtins)
-
-
-def fold_call(call, builtins, inner=False):
-    """The values that a call gives; the calls among its arguments are folded before it is judged."""
-    given = [
-        fold_call(argument, builtins, True)[0] if isinstance(argument, Call) else argument for argument in call.arguments
-    ]
-    if call.name not in builtins:
+    name, *fields = line.split('\t')
+    if name not in builtins:
         raise Refused(1)
-    builtin = builtins[call.name]
-    if len(given) != len(builtin.takes):
+    builtin = builtins[name]
+    if len(fields) != len(builtin.takes):
         raise Refused(2)
-    arguments, types = [], []
-    for index, argument in enumerate(given):
-        if call.name == 'bitcast' and index == 0:
-            arguments.append(read_type(*argument))
+    arguments, types, place = [], [], len(name) + 2
+    for index, field in enumerate(fields):
+        if name == 'bitcast' and index == 0:
+            arguments.append(read_type(field, place))
             types.append(arguments[-1])
         else:
-            arguments.append(read_value(*argument) if isinstance(argument, Spelling) else argument)
+            arguments.append(read_value(field, place))
             types.append(arguments[-1].type)
-    if inner and call.name == 'frexp':
-        raise Refused(4)
+        place += len(field) + 1
     if any(type not in taken for type, taken in zip(types, builtin.takes)):
         raise Refused(4)
     if not builtin.together(*types):
         raise Refused(5)
-    if call.name == 'bitcast' and len({type.lane_count * BYTES[type.scalar] for type in types}) > 1:
+    if name == 'bitcast' and len({type.lane_count * BYTES[type.scalar] for type in types}) > 1:
         raise Refused(6)
     return builtin.fold(*arguments)
 

@@ -4,7 +4,7 @@ use std::{error::Error, fmt};
 macro_rules! refusals {
     ($($(#[$meaning:meta])* $refusal:ident $number:literal $said:literal)*) => {
         /// Why a call is not answered, or a listing not sorted. Each has its number in documents 01 and 02; of several
-        /// reasons the first in the order 7, 12, 13, 1, 2, 3, 4, 5, 6, 8 is given of a call, and in the order 15, 17, 14, 8 of
+        /// reasons the first in the order 7, 1, 2, 3, 4, 5, 6, 8 is given of a call, and in the order 15, 17, 14, 8 of
         /// a listing. A line is never refused by 3: it is misspelled, which is told with its place.
         #[derive(Clone, Copy, Debug, PartialEq, Eq, Hash)]
         #[non_exhaustive]
@@ -71,10 +71,6 @@ refusals! {
     LineTooLong 7 "the line has more than 400 bytes"
     /// The memory lent for the answer is too short.
     NoRoom 8 "the memory lent for the answer is too short"
-    /// The line holds an opening bracket and is not one call: a name and, in brackets, arguments parted by semicolons.
-    NoCall 12 "the line holds an opening bracket and is not one call"
-    /// The line's calls nest more than 8 deep.
-    TooDeep 13 "the line's calls nest more than 8 deep"
     /// A line of the listing is no answer line.
     NoAnswerLine 14 "a line of the listing is no answer line"
     /// The listing has more than 32,768 bytes.
@@ -152,7 +148,7 @@ mod tests {
     use super::*;
     use crate::fold_line;
 
-    const KNOWN: [u8; 16] = [1, 2, 3, 4, 5, 6, 7, 8, 9, 10, 11, 12, 13, 14, 15, 17];
+    const KNOWN: [u8; 14] = [1, 2, 3, 4, 5, 6, 7, 8, 9, 10, 11, 14, 15, 17];
 
     #[test]
     fn every_number_comes_back() {
@@ -188,9 +184,6 @@ mod tests {
             ("abs\tvec2<f16>:3C00", 19, "a comma and another lane"),
             ("abs\tvec2<f16>:3C00,0000,0000", 24, "the end of the value"),
             ("min\ti32:00000001\tint:00000001", 18, "a type, as f32 or vec4<f32>, and a colon before a value's lanes"),
-            ("min(abs(i32:00000001);i32:0000000)", 34, "a digit, 0 to 9 or A to F"),
-            ("min(abs(vec2<f16>:3C00);none(1))", 23, "a comma and another lane"),
-            ("abs(bitcast(vec4f;u32:00000000))", 13, "a type, as f32 or vec4<f32>, and a colon before a value's lanes"),
             ("bitcast\tvec4f\tu32:00000000", 9, "a type, as f32 or vec4<f32>, and a colon before a value's lanes"),
         ] {
             let refusal = fold_line(line.as_bytes()).unwrap_err();

@@ -220,7 +220,7 @@ impl Misspelled {
     /// What was expected at the place, which is this fault's in the line or the value's text.
     pub(crate) fn expected(self, line: &[u8]) -> &'static str {
         let before = &line[..line.len().min(self.place - 1)];
-        let field = before.rsplit(|&byte| matches!(byte, b'\t' | b'(' | b';')).next().unwrap_or_default();
+        let field = before.rsplit(|&byte| byte == b'\t').next().unwrap_or_default();
         let mut parts = field.split(|&byte| byte == b':' || byte == b',');
         let ty = parts.next().and_then(|ty| std::str::from_utf8(ty).ok()?.parse::<Type>().ok());
         let lanes: Vec<&[u8]> = parts.collect();

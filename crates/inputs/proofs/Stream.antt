@@ -13,9 +13,7 @@ use Rattle.buffers.specs.Text.{placeOf}
 use Rattle.buffers.proofs.FirstPlace.{place-le}
 use Rattle.cutting.specs.Lines.{newlineAt, lines, afterNewline}
 use Rattle.builtins.specs.Fold.{refused}
-use Rattle.nested.specs.declared.Folded.{Folded}
-use Rattle.nested.specs.Nested.{refusedAt}
-use Rattle.lines.specs.Line.{foldedLine, lineOf, refusalOf, faultPlace}
+use Rattle.lines.specs.Line.{lineOf, refusalOf, faultPlace}
 use Rattle.cutting.specs.Cutting.{mostBytes, ended, over, due, pieceSize, pieceSkip}
 use Rattle.stream.specs.Printed.{answerText, answerLine, answerLines, printed, printedFrom}
 use Rattle.stream.specs.Stream.{pieceText, partText, partSize, partSkip}
@@ -24,13 +22,13 @@ use Rattle.cutting.proofs.Sizes.{size-le}
 use Rattle.cutting.proofs.Cut.{lines-ended, lines-open, after-ended, after-open}
 
 -- all lines that are too long have one answer
-long-line : (R : Reading) (l : List ℕ) → mostBytes < length l → foldedLine R l ≡ refusedAt 7 0
-unfolding foldedLine
+long-line : (R : Reading) (l : List ℕ) → mostBytes < length l → lineOf R l ≡ refused 7
+unfolding lineOf
 long-line R l h = rw (lt-ltb mostBytes (length l) h)
 
 long : (R : Reading) (l : List ℕ) → mostBytes < length l → (refusalOf R l ≡ 7) × (faultPlace R l ≡ 0)
-unfolding refusalOf lineOf faultPlace refusedAt refused
-long R l h = (ap (λ (x : Folded). x .answer .refusal) (long-line R l h), ap (λ (x : Folded). x .place) (long-line R l h))
+unfolding refusalOf faultPlace refused
+long R l h = rw (long-line R l h) (refl, refl)
 
 pub same-long : (R : Reading) (l m : List ℕ) → mostBytes < length l → mostBytes < length m → answerLine R l ≡ answerLine R m
 unfolding answerLine answerText

@@ -1,4 +1,2 @@
 pub mod Misspelt
 pub mod Written
-pub mod Tabbed
-pub mod Flat

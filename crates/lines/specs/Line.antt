@@ -1,8 +1,8 @@
--- What a line gives in a reading: 01, "Lines", and 02, Q-2 and Q-8. Definitions only.
+-- What a line gives in a reading: 01, "Lines". Definitions only.
 use Prim.Native.Nat.{ℕ}
 use mathlib.Core.Bool.{Bool, cond}
 use mathlib.Core.List.{List}
-use lib.Dec.{ltb}
+use lib.Dec.{eqb, ltb}
 use lib.ListN.{length}
 use Rattle.readings.specs.declared.Reading.{Reading}
 use Rattle.values.specs.declared.Kind.{Kind}
@@ -13,7 +13,7 @@ use Rattle.calls.specs.declared.Builtin.{Builtin}
 use Rattle.calls.specs.declared.Builtin.the-variants.{Bitcast}
 use Rattle.calls.specs.declared.Call.{Call}
 use Rattle.builtins.specs.declared.Answer.{Answer}
-use Rattle.builtins.specs.Fold.{foldIn}
+use Rattle.builtins.specs.Fold.{refused, foldIn}
 use Rattle.buffers.specs.Text.{sameBytes}
 use Rattle.cutting.specs.Cutting.{mostBytes}
 use Rattle.spelling.specs.Types.{kindOf}
@@ -22,9 +22,6 @@ use Rattle.names.specs.Names.{nameOf, builtinOf}
 use Rattle.fields.specs.Fields.{fieldAt, argumentCount}
 use Rattle.misspellings.specs.declared.Misspelling.{Misspelling}
 use Rattle.misspellings.specs.Misspellings.{lineFault}
-use Rattle.nesting.specs.Grammar.{isNested}
-use Rattle.nested.specs.declared.Folded.{Folded}
-use Rattle.nested.specs.Nested.{refusedAt, told, nestedOf}
 use Rattle.answers.specs.declared.LineAnswer.{LineAnswer}
 use Rattle.answers.specs.Answers.{valuesText, toldIn, spelledIn}
 
@@ -51,36 +48,35 @@ callOf line =
     cond (isCast line) (castCall (builtinOf (fieldAt line 0)) (argumentCount line) line)
     (plainCall (builtinOf (fieldAt line 0)) (argumentCount line) line)
 
--- ---- what it gives, with the place of what is misspelled
+-- ---- its answer
 
-abbrev pub faultOf : List ℕ → Misspelling
-faultOf line = lineFault (isCast line) line
-
--- "7: the line has more than 400 bytes, newline not counted"; Q-8: "A line that holds an opening round bracket is one call";
--- Q-2: "in lines they replace 3, in its place in the order, the leftmost fault first"
-unfoldable pub foldedLine : Reading → List ℕ → Folded
-foldedLine r line =
-    cond (ltb mostBytes (length line)) (refusedAt 7 0)
-    (cond (isNested line) (nestedOf r line)
-    (told (foldIn r (callOf line)) (faultOf line)))
-
+-- "7: the line has more than 400 bytes, newline not counted"
 unfoldable pub lineOf : Reading → List ℕ → Answer
-lineOf r line = foldedLine r line .answer
+lineOf r line = cond (ltb mostBytes (length line)) (refused 7) (foldIn r (callOf line))
 
 unfoldable pub answerOf : Reading → List ℕ → List ℕ
 answerOf r line = valuesText (lineOf r line)
 
+-- ---- its refusal: "9 type spelling or colon, 10 lane count, 11 digit; in lines they replace 3, in its place in the order, the leftmost fault first"
+
+abbrev pub faultOf : List ℕ → Misspelling
+faultOf line = lineFault (isCast line) line
+
+-- what is told in the place of a refusal n
+abbrev pub inPlaceOf3 : ℕ → List ℕ → ℕ
+inPlaceOf3 n line = cond (eqb n 3) (faultOf line .refusal) n
+
 unfoldable pub refusalOf : Reading → List ℕ → ℕ
-refusalOf r line = lineOf r line .refusal
+refusalOf r line = inPlaceOf3 (lineOf r line .refusal) line
 
 -- "the byte counted from 1 in the line"; 0 where no misspelling is told
 unfoldable pub faultPlace : Reading → List ℕ → ℕ
-faultPlace r line = foldedLine r line .place
+faultPlace r line = cond (eqb (lineOf r line .refusal) 3) (faultOf line .place) 0
 
 -- ---- a line's answer in lent memory of a size
 
 unfoldable pub refusalIn : Reading → ℕ → List ℕ → ℕ
-refusalIn r room line = toldIn room (lineOf r line)
+refusalIn r room line = inPlaceOf3 (toldIn room (lineOf r line)) line
 
 unfoldable pub writtenIn : Reading → ℕ → List ℕ → List ℕ
 writtenIn r room line = spelledIn room (lineOf r line)

@@ -2,20 +2,17 @@
 use answers::LineAnswer;
 use cutting::MOST_BYTES;
 use engines::Engine;
-use nested::Folded;
 use readings::Reading;
 ghost use mathlib.Core.Path.{_≡_};
-ghost use Prim.Native.Nat.{_≤_, _<_};
+ghost use Prim.Native.Nat.{_≤_};
 ghost use lib.ListN.{length};
 ghost use Rattle.buffers.specs.Memory.{put};
 ghost use Rattle.calls.specs.Table.{builtinAt};
 ghost use Rattle.calls.specs.Words as Words;
 ghost use Rattle.spelling.specs.Hex.{DigitTable};
 ghost use Rattle.fields.specs.Fields.{fieldAt, argumentCount};
-ghost use Rattle.builtins.specs.Fold.{foldIn};
-ghost use Rattle.answers.specs.Answers.{spelledIn};
 ghost use Rattle.lines.specs.Line.{castCall, plainCall, isCast, callOf, lineAnswer, writtenIn};
-ghost use Rattle.lines.specs.Program.{misspelledLine, placedIn};
+ghost use Rattle.lines.specs.Program.{misspelledLine};
 
 // ---- the call that a line spells, as words
 
@@ -87,54 +84,7 @@ fn misspelled(line: &[u8], end: usize, cast: bool) -> LineAnswer
     }
 }
 
-// What a line gives, written at the start of the lent memory.
-fn put_folded(out: &mut [u8], x: Folded) -> LineAnswer
-    ensures { λ r. ⌜ (r ≡ placedIn (length (now (out .entry))) x)
-        × (now (out .exit) ≡ put (now (out .entry)) 0 (spelledIn (length (now (out .entry))) (x .answer))) ⌝ }
-{
-    let a = x.answer;
-    let first = a.first;
-    let second = a.second;
-    let mut w: [u64; 35] = [0; 35];
-    words::put_value(&mut w, 0, first);
-    words::put_value(&mut w, 17, second);
-    let r = answers::put_answer(out, a.refusal, &w);
-    LineAnswer {
-        refusal: r.refusal,
-        len: r.len,
-        place: x.place,
-    }
-}
-
-// What is told of a line whose call by its fields is refused: it may be nested, and else a misspelling is told in the place of 3. Its name ends at `end`, and is bitcast's where `cast`.
-fn fold_refused(
-    reading: Reading,
-    engine: Engine,
-    line: &[u8],
-    end: usize,
-    cast: bool,
-    refusal: u8,
-    out: &mut [u8],
-) -> LineAnswer
-    requires { ⌜ (length (now line) ≤ 400) × (end ≡ length (fieldAt (now line) 0)) × (cast ≡ isCast (now line)) × (refusal ≡ foldIn reading (callOf (now line)) .refusal) × (0 < refusal) ⌝ }
-    ensures { λ r. ⌜ (r ≡ lineAnswer reading (length (now (out .entry))) (now (line .entry)))
-        × (now (out .exit) ≡ put (now (out .entry)) 0 (writtenIn reading (length (now (out .entry))) (now (line .entry)))) ⌝ }
-{
-    if nesting::is_nested(line) {
-        return put_folded(out, nested::fold(reading, engine, line));
-    }
-    if refusal == 3 {
-        return misspelled(line, end, cast);
-    }
-    LineAnswer {
-        refusal: refusal,
-        len: 0,
-        place: 0,
-    }
-}
-
-// Folds a line in the reading and by the engine that the caller chooses. The answer is written at the start of the lent memory, without a newline; a refusal leaves the memory as it is. A line
-// whose call by its fields is answered has no bracket, so that only the others are searched for one.
+// Folds a line in the reading and by the engine that the caller chooses. The answer is written at the start of the lent memory, without a newline; a refusal leaves the memory as it is.
 pub fn fold_line_in(reading: Reading, engine: Engine, line: &[u8], out: &mut [u8]) -> LineAnswer
     ensures { λ r. ⌜ (r ≡ lineAnswer reading (length (now (out .entry))) (now (line .entry)))
         × (now (out .exit) ≡ put (now (out .entry)) 0 (writtenIn reading (length (now (out .entry))) (now (line .entry)))) ⌝ }
@@ -152,10 +102,10 @@ pub fn fold_line_in(reading: Reading, engine: Engine, line: &[u8], out: &mut [u8
     put_call(&mut call, line, name, cast);
     let mut answer: [u64; 35] = [0; 35];
     let refusal = builtins::fold_in(reading, engine, &call, &mut answer);
-    if refusal == 0 {
-        return answers::put_answer(out, refusal, &answer);
+    if refusal == 3 {
+        return misspelled(line, name.len(), cast);
     }
-    fold_refused(reading, engine, line, name.len(), cast, refusal, out)
+    answers::put_answer(out, refusal, &answer)
 }
 
 // In the crate's reading, by arithmetic.

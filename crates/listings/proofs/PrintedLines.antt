@@ -1,5 +1,5 @@
--- Whatever is printed for a line of input is an answer line: a refusal is `refused` and its number, and what a line is answered with is well formed.
--- No answer line has a newline in it, so what is printed for all of the input is these lines, one after another. Assumes nothing.
+-- Whatever is printed for a line of input is an answer line: a refusal is `refused` and its number, and the call that a line spells has values of 16 lanes, so that what it is answered with is
+-- well formed. No answer line has a newline in it, so what is printed for all of the input is these lines, one after another. Assumes nothing.
 use Prim.Native.Nat.{ℕ}
 use mathlib.Core.Bool.{Bool, true, false, cond}
 use mathlib.Core.List.{List, [], _∷_, _++_, append-nil}
@@ -7,26 +7,32 @@ use mathlib.Core.Logic.{inl, inr}
 use mathlib.Core.Path.{_≡_, refl, _∙_}
 use native.Mathlib.Numerals.{add-one}
 use native.Mathlib.Omega.{arith}
-use lib.Dec.{lit<, eqb}
+use lib.Dec.{lit<, ltb, eqb}
 use lib.ListN.{length, length-append}
 use lib.Seq.{take-append-seam, drop-append-add}
 use borrow.Author.Tests.{eqb-true, eqb-false}
 use Rattle.values.specs.declared.Value.{Value}
 use Rattle.readings.specs.declared.Reading.{Reading}
-use Rattle.values.specs.Value.{isType, shaped}
+use Rattle.values.specs.Value.{isType, shaped, emptyValue}
 use Rattle.values.specs.declared.Scalar.the-variants.{I32}
 use Rattle.values.proofs.Bools.{and, every-both}
 use Rattle.values.proofs.Places.{itself}
+use Rattle.calls.specs.declared.Builtin.the-variants.{Bitcast}
 use Rattle.builtins.specs.declared.Answer.{Answer}
-use Rattle.formed.specs.Answers.{AnswerFormed}
-use Rattle.buffers.specs.Text.{bytes}
+use Rattle.builtins.specs.Fold.{refused, foldIn}
+use Rattle.formed.specs.Answers.{AnswerFormed, Held}
+use Rattle.formed.proofs.Answered.{answers-formed}
+use Rattle.buffers.specs.Text.{bytes, sameBytes}
 use Rattle.buffers.proofs.FirstPlace.{without, place-after}
 use Rattle.spelling.specs.Write.{textOf}
+use Rattle.spelling.proofs.WrittenSo.{read-lanes}
 use Rattle.spelling.proofs.TextBytes.{text-without}
-use Rattle.fields.specs.Fields.{tab}
-use Rattle.lines.specs.Line.{lineOf, refusalOf, faultPlace, answerOf}
-use Rattle.lines.proofs.Misspelt.{line-sound}
+use Rattle.fields.specs.Fields.{tab, fieldAt, argumentCount}
+use Rattle.names.specs.Names.{nameOf, builtinOf}
+use Rattle.lines.specs.Line.{plainCall, castCall, callOf, lineOf, refusalOf, faultPlace, answerOf}
+use Rattle.lines.proofs.Misspelt.{none-told}
 use Rattle.answers.specs.Answers.{secondText, valuesText}
+use Rattle.cutting.specs.Cutting.{mostBytes}
 use Rattle.cutting.specs.Lines.{lines}
 use Rattle.printing.specs.Decimal.{places, digits, refusedText, placeText, refusedAt}
 use Rattle.stream.specs.Printed.{answerText, answerLine, answerLines, printed}
@@ -38,9 +44,21 @@ use Rattle.listings.proofs.AnswerValues.{no-second, second}
 
 -- ---- one line
 
+held : (line : List ℕ) → Held (callOf line)
+unfolding callOf castCall plainCall emptyValue
+held line = by (sameBytes (nameOf Bitcast) (fieldAt line 0))
+  where
+    by : (b : Bool) → let which = builtinOf (fieldAt line 0) in let n = argumentCount line in Held (cond b (castCall which n line) (plainCall which n line))
+    by true = record { a = read-lanes (fieldAt line 2); b = refl; c = refl }
+    by false = record { a = read-lanes (fieldAt line 1); b = read-lanes (fieldAt line 2); c = read-lanes (fieldAt line 3) }
+
 line-formed : (R : Reading) (line : List ℕ) → refusalOf R line ≡ 0 → AnswerFormed (lineOf R line)
-unfolding refusalOf lineOf
-line-formed R line z = line-sound R line .formed z
+unfolding lineOf refused
+line-formed R line z = by (ltb mostBytes (length line)) (none-told R line z)
+  where
+    by : (b : Bool) → cond b (refused 7) (foldIn R (callOf line)) .refusal ≡ 0 → AnswerFormed (cond b (refused 7) (foldIn R (callOf line)))
+    by true e = absurd (omega arith)
+    by false e = answers-formed R (callOf line) (held line) e
 
 answer-ok : (a : Answer) → AnswerFormed a → readAnswer (textOf (a .first) ++ secondText (a .second)) .ok ≡ true
 unfolding valuesLine isPair
