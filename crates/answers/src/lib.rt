@@ -8,7 +8,7 @@ ghost use Rattle.answers.specs.Answers.{second_text, answered_in, spelled_in};
 ghost use Rattle.answers.specs.Program.{Answers, second_length};
 
 // A line's answer in lent memory: its length, or the number of the refusal and the place of a misspelling, 0 where there is none.
-#[derive(Drop)]
+#[derive(Clone, Copy)]
 pub struct LineAnswer {
     pub refusal: u8,
     pub len: usize,

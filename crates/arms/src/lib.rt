@@ -36,7 +36,7 @@ const VEC4_F32: u64 = 19;
 
 // What the arm of a builtin works out of a call whose first value is a scalar or a vector: whether the call passes, and two values, each by the place of its type and four
 // lanes. Only frexp has a second one, its exponents, and only pack2x16float loses something.
-#[derive(Drop)]
+#[derive(Clone, Copy)]
 pub struct Outcome {
     pub passes: bool,
     pub first: u64,

@@ -16,7 +16,7 @@ use readings::Reading;
 use values::Value;
 
 // `refusal` is 01's number, 0 where the call is answered. Only frexp has a second value, and only pack2x16float a loss, the number of Q-7.
-#[derive(Drop)]
+#[derive(Clone, Copy)]
 pub struct Answer {
     pub refusal: u8,
     pub first: Value,

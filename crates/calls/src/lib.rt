@@ -9,7 +9,7 @@ ghost use Rattle.calls.specs.Program.{types_of};
 use values::{Kind, Value};
 
 // In the order of 01's table; Unknown is a name that is not in it.
-#[derive(Drop)]
+#[derive(Clone, Copy)]
 pub enum Builtin {
     All,
     Any,
@@ -160,7 +160,7 @@ pub fn number_of(b: Builtin) -> u64
 }
 
 // `target` is bitcast's type field, and `count` counts it. Slots past the count are not looked at.
-#[derive(Drop)]
+#[derive(Clone, Copy)]
 pub struct Call {
     pub builtin: Builtin,
     pub count: usize,

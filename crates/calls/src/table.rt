@@ -8,7 +8,7 @@ use crate::Builtin;
 use values::Scalar;
 
 // The shapes of a row. One set of types serves for a row: those of each value, but of Selecting those of the condition, of Scaling those of the first value.
-#[derive(Drop)]
+#[derive(Clone, Copy)]
 pub enum Shape {
     Unlisted,
     OneValue,
@@ -20,7 +20,7 @@ pub enum Shape {
 }
 
 // A row as the program has it.
-#[derive(Drop)]
+#[derive(Clone, Copy)]
 pub struct Entry {
     pub shape: Shape,
     pub set: u64,

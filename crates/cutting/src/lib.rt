@@ -8,7 +8,7 @@ pub const MOST_BYTES: usize = 400;
 
 // The first line of the bytes at hand: where it ends, whether it is to be answered now, how many bytes are done with, and whether what
 // comes next belongs to a line that is answered already.
-#[derive(Drop)]
+#[derive(Clone, Copy)]
 pub struct FirstLine {
     pub end: usize,
     pub due: bool,

@@ -8,13 +8,13 @@ use kinds::Difference;
 use listings::Judged;
 
 // What became of two listings: the refusal, 0 where there is none, and then how many lines the longer one has.
-#[derive(Drop)]
+#[derive(Clone, Copy)]
 pub struct Compared {
     pub refusal: u8,
     pub count: usize,
 }
 
-#[derive(Drop)]
+#[derive(Clone, Copy)]
 pub enum Side {
     Neither,
     Left,
@@ -22,7 +22,7 @@ pub enum Side {
 }
 
 // A line of one of two listings, by its place in it.
-#[derive(Drop)]
+#[derive(Clone, Copy)]
 pub struct Place {
     pub side: Side,
     pub at: usize,

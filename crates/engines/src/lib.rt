@@ -2,7 +2,7 @@
 ghost use Rattle.std.specs.Prelude.{◌≡◌};
 ghost use Rattle.engines.specs.Engines.{engine_at};
 
-#[derive(Drop)]
+#[derive(Clone, Copy)]
 pub enum Engine {
     Arithmetic,
     Tables,

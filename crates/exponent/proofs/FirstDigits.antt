@@ -3,7 +3,7 @@
 use Rattle.std.proofs.Common.{◌≡◌, ℕ, zero, suc, ◌+◌, ◌-◌, ◌*◌, ◌/◌, ◌%◌, ◌^◌, ◌<◌, ◌≤◌, sym, refl, ap, ◌∙◌, inl, inr, le_trans, le_of_eq, lt_of_lt_of_le, lt_of_le_of_lt, mul-le-mul_right, mod-lt, mul_assoc, suc-mul, mul_comm, add-mul, eq-zero-or-pos, le_antisymm, lt_of_mul-lt-mul_right, mul-lt-mul_of_pos_right, one-mul, lt_of_not-le, div-add-mod', le-div_iff_mul-le, mul-one, mul_right_comm, not-le_of_lt, le_of_mul-le-mul_right, mul-div_cancel, arith, pow_pos, pow_mono, pow-add}
 use native.Mathlib.Nat.{two-pow-succ}
 use lib.Ieee.{size}
-use lib.Ieee.Digits.{size-lt, size_le, size_reaches}
+use lib.Ieee.Digits.{size-lt, size-le, size_reaches}
 use Rattle.half.specs.Format.{Format, hidden, lowest, units, pattern}
 use Rattle.half.specs.Program.{format}
 use Rattle.half.proofs.Closest.{split}
@@ -12,7 +12,7 @@ use Rattle.exponent.specs.Leads.{Leads}
 
 -- u is at least half of 2 ^ s, and below it
 pub size_at : (u s : ℕ) → u < 2 ^ s → 2 ^ s ≤ 2 * u → size u ≡ s
-size_at u s l g = elim (split (size u) s) [ inl h ↦ absurd (not-le_of_lt (twice h) g) | inr h ↦ le_antisymm (size_le u s l) h ]
+size_at u s l g = elim (split (size u) s) [ inl h ↦ absurd (not-le_of_lt (twice h) g) | inr h ↦ le_antisymm (size-le u s l) h ]
   where
     twice : suc (size u) ≤ s → 2 * u < 2 ^ s
     twice h = lt_of_lt_of_le (omega (arith, size-lt u, two-pow-succ (size u))) (pow_mono h)
@@ -57,7 +57,7 @@ led p m n =
       | inl l ↦
           let s = size m in
           let d = suc p - s in
-          let few : s ≤ p = size_le m p l in
+          let few : s ≤ p = size-le m p l in
           let some : 0 < s = lt_of_not-le (λ (z : s ≤ 0). not-le_of_lt (lt_of_lt_of_le (size-lt m) (pow_mono z)) n) in
           let low : 2 ^ p ≤ m * 2 ^ d = le_trans (le_of_eq (ap (λ (x : ℕ). 2 ^ x) (before s p few some) ∙ pow-add 2 (s - 1) d)) (mul-le-mul_right (2 ^ d) (size_reaches m (s - 1) (omega arith))) in
           let high : m * 2 ^ d < 2 ^ suc p = lt_of_lt_of_le (mul-lt-mul_of_pos_right (size-lt m) (pow_pos d)) (le_of_eq (sym (pow-add 2 s d) ∙ ap (λ (x : ℕ). 2 ^ x) (whole s p few))) in

@@ -10,7 +10,7 @@ ghost use Rattle.exponent.specs.Leads.{Leads};
 use half::{choose, power};
 use values::Scalar;
 
-#[derive(Drop)]
+#[derive(Clone, Copy)]
 struct Digits {
     first: u32,
     count: u32,
@@ -38,7 +38,7 @@ fn leading(p: u32, m: u32) -> Digits
 
 // ---- frexp
 
-#[derive(Drop)]
+#[derive(Clone, Copy)]
 struct Split {
     fraction: u32,
     exponent: u32,

@@ -9,7 +9,7 @@ use spelling::Fault;
 use values::Scalar;
 
 // What is wrong with a spelling, and at which place from 1.
-#[derive(Drop)]
+#[derive(Clone, Copy)]
 pub struct Faulty {
     pub fault: Fault,
     pub place: usize,

@@ -5,7 +5,7 @@ use libc::STDOUT_FILENO;
 use stream::Space;
 
 // What was read of a file; not `good` where it could not be.
-#[derive(Drop)]
+#[derive(Clone, Copy)]
 struct File {
     good: bool,
     len: usize,

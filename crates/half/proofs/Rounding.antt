@@ -7,7 +7,7 @@ use native.Mathlib.Nat.{le_trans, le_of_eq, lt_of_lt_of_le, lt_of_le_of_lt, mul-
 use native.Mathlib.Omega.{arith}
 use lib.Pow.{pow_pos, pow-add}
 use lib.Ieee.{size}
-use lib.Ieee.Digits.{size-lt, size_le, size_reaches}
+use lib.Ieee.Digits.{size-lt, size-le, size_reaches}
 use lib.Ieee.Fits.{kept-lt}
 use lib.Ieee.Nearest.{closest, closest_same, closest_mono, div_same, div_mono}
 use Rattle.half.specs.Format.{Format, hidden, units, pattern, rounded}
@@ -86,7 +86,7 @@ module _ (f : Format) where
       ])
     where
       size_mono : (x y : ℕ) → x ≤ y → size x ≤ size y
-      size_mono x y l = size_le x (size y) (lt_of_le_of_lt l (size-lt y))
+      size_mono x y l = size-le x (size y) (lt_of_le_of_lt l (size-lt y))
 
       scaled : (a c b d z : ℕ) → a * d ≤ b * c → a * (d * z) ≤ b * (c * z)
       scaled a c b d z h = le_trans (le_of_eq (sym (mul_assoc a d z))) (le_trans (mul-le-mul_right z h) (le_of_eq (mul_assoc b c z)))
@@ -106,7 +106,7 @@ module _ (f : Format) where
   rounded_exact a c j q C l e =
       let w = q * 2 ^ j in
       let k = dropped f w 1 in
-      let fits : k ≤ j = omega (arith, size_le (w / 1) (suc f.fraction + j) (lt_of_le_of_lt (le_of_eq (div-one w)) (lt_of_lt_of_le (mul-lt-mul_of_pos_right l (pow_pos j)) (le_of_eq (sym (pow-add 2 (suc f.fraction) j)))))) in
+      let fits : k ≤ j = omega (arith, size-le (w / 1) (suc f.fraction + j) (lt_of_le_of_lt (le_of_eq (div-one w)) (lt_of_lt_of_le (mul-lt-mul_of_pos_right l (pow_pos j)) (le_of_eq (sym (pow-add 2 (suc f.fraction) j)))))) in
       let x = q * 2 ^ (j - k) in
       let whole : w ≡ x * 2 ^ k = ap (λ (z : ℕ). q * 2 ^ z) (sym (sub-add_cancel fits)) ∙ ap (λ (z : ℕ). q * z) (pow-add 2 (j - k) k) ∙ sym (mul_assoc q (2 ^ (j - k)) (2 ^ k)) in
       rounded_same a c w 1 C (omega arith) (mul-one a ∙ e)

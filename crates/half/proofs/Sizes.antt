@@ -8,7 +8,7 @@ use native.Mathlib.Omega.{arith}
 use lib.Pow.{pow_pos, pow_mono, pow-add}
 use lib.Arith.{digits_div, digits_mod}
 use lib.Ieee.{size}
-use lib.Ieee.Digits.{size-lt, size_le}
+use lib.Ieee.Digits.{size-lt, size-le}
 use Rattle.half.specs.Format.{Format, hidden, fields, units, pattern}
 use Rattle.half.proofs.Closest.{split}
 
@@ -16,10 +16,10 @@ use Rattle.half.proofs.Closest.{split}
 pub size_past : (p k n : ℕ) → 2 ^ (p + k) ≤ n → n < 2 ^ suc (p + k) → size n - suc p ≡ k
 size_past p k n a b =
     let least : p + k < size n = lt_of_not-le (λ (g : size n ≤ p + k). not-le_of_lt (lt_of_lt_of_le (size-lt n) (pow_mono g)) a) in
-    omega (arith, size_le n (suc (p + k)) b)
+    omega (arith, size-le n (suc (p + k)) b)
 
 pub size_within : (p n : ℕ) → n < 2 ^ p → size n - p ≡ 0
-size_within p n h = sub-eq-zero_of_le (size_le n p h)
+size_within p n h = sub-eq-zero_of_le (size-le n p h)
 
 pub power_next : (p k : ℕ) → 2 ^ suc p * 2 ^ k ≡ 2 ^ p * 2 ^ suc k
 power_next p k = sym (pow-add 2 (suc p) k) ∙ ap (λ (x : ℕ). 2 ^ x) (suc-add p k ∙ sym (add-suc p k)) ∙ pow-add 2 p (suc k)

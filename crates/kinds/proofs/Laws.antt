@@ -1,6 +1,6 @@
 -- What Q-9 says of the kinds, each statement of specs/Laws. A kind says how five tests of two lines came out, and each test what lanes they have. Assumes nothing.
 use Prim.Native.Nat.{ℕ}
-use mathlib.Core.Bool.{Bool, true, false, cond, ◌||◌, false≢true, or_true}
+use mathlib.Core.Bool.{Bool, true, false, cond, ◌||◌, false≢true, or-true}
 use mathlib.Core.List.{List}
 use mathlib.Core.Logic.{◌⊎◌, inl, inr, ⊎_elim}
 use mathlib.Core.Path.{◌≡◌, refl, ap, subst}
@@ -109,7 +109,7 @@ never_missing l r e = says l r e
 pub refusal_where : RefusalWhere
 refusal_where l r d = (
   λ e. either_of (read_answer l).refused (read_answer r).refused (says l r e),
-  ⊎_elim (λ t. refusal l r d (rw t)) (λ t. refusal l r d (rw t (or_true (read_answer l).refused))),
+  ⊎_elim (λ t. refusal l r d (rw t)) (λ t. refusal l r d (rw t (or-true (read_answer l).refused))),
 )
 
 pub type_where : TypeWhere

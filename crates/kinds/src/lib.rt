@@ -7,7 +7,7 @@ use listings::Answered;
 use values::{Scalar, Value};
 
 // The kind of a difference, the first that applies; Alike is none.
-#[derive(Drop)]
+#[derive(Clone, Copy)]
 pub enum Difference {
     Alike,
     Missing,

@@ -13,7 +13,7 @@ use values::{Kind, Scalar, Value};
 pub const LONGEST_LISTING: usize = 32768;
 
 // What a line says: whether it is an answer line, whether a refused one, and its values, empty where it has none.
-#[derive(Drop)]
+#[derive(Clone, Copy)]
 pub struct Answered {
     pub ok: bool,
     pub refused: bool,
@@ -22,7 +22,7 @@ pub struct Answered {
 }
 
 // A listing's refusal, 0 where there is none, and how many lines it has.
-#[derive(Drop)]
+#[derive(Clone, Copy)]
 pub struct Judged {
     pub refusal: u8,
     pub count: usize,

@@ -4,7 +4,7 @@ ghost use Rattle.half.specs.Convert.{half_of, single_of};
 ghost use Rattle.losses.specs.Losses.{loss_number, loss_of, told_of};
 
 // Rounded: to a finite half, which may be a zero. Overflowed: a finite number became an infinity.
-#[derive(Drop)]
+#[derive(Clone, Copy)]
 pub enum Loss {
     Exact,
     Rounded,
@@ -21,7 +21,7 @@ pub fn loss_number(l: Loss) -> u8
     }
 }
 
-#[derive(Drop)]
+#[derive(Clone, Copy)]
 pub struct Converted {
     pub half: u16,
     pub loss: Loss,

@@ -4,7 +4,7 @@ ghost use Rattle.fields.specs.Fields.{field_at};
 ghost use Rattle.misspellings.specs.Misspellings.{misspelled, type_fault, value_fault, field_fault, in_line, line_fault};
 
 // A refusal, 9 to 11, and its place from 1; 0 and 0 where nothing is wrong.
-#[derive(Drop)]
+#[derive(Clone, Copy)]
 pub struct Misspelling {
     pub refusal: u8,
     pub place: usize,

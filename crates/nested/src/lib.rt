@@ -14,7 +14,7 @@ use readings::Reading;
 use values::{Kind, Value};
 
 // An argument: a type, or a value that is spelled or that a call gives. A call that is refused, and what is wrongly spelled, each with its place from 1 in the line; 0 and 0 elsewhere.
-#[derive(Drop)]
+#[derive(Clone, Copy)]
 pub struct Argument {
     pub typed: bool,
     pub refused: Misspelling,
@@ -24,7 +24,7 @@ pub struct Argument {
 }
 
 // The arguments of a call: the first refusal and the first fault among them, how many they are, bitcast's type and the first three values.
-#[derive(Drop)]
+#[derive(Clone, Copy)]
 pub struct Arguments {
     pub refused: Misspelling,
     pub fault: Misspelling,
@@ -36,21 +36,21 @@ pub struct Arguments {
 }
 
 // What a call gives, and the place of what is misspelled, 0 where nothing is.
-#[derive(Drop)]
+#[derive(Clone, Copy)]
 pub struct Folded {
     pub answer: Answer,
     pub place: usize,
 }
 
 // What was read, and where it ends.
-#[derive(Drop)]
+#[derive(Clone, Copy)]
 pub struct One {
     pub ok: bool,
     pub end: usize,
     pub given: Argument,
 }
 
-#[derive(Drop)]
+#[derive(Clone, Copy)]
 pub struct All {
     pub ok: bool,
     pub end: usize,

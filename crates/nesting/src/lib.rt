@@ -6,7 +6,7 @@ ghost use Rattle.nesting.specs.Read.{refusal_of};
 ghost use Rattle.nesting.specs.Program.{word_end, head_at, argument_at, call_at, rest_at, deepened, judged_of};
 
 // What an argument starts with, and where that ends: a name with an opening bracket after it, and whether the name is bitcast's; or a spelling.
-#[derive(Drop)]
+#[derive(Clone, Copy)]
 pub enum Head {
     Call(usize, bool),
     Spelling(usize),
@@ -14,7 +14,7 @@ pub enum Head {
 }
 
 // Where what was read ends, and how deep it is.
-#[derive(Drop)]
+#[derive(Clone, Copy)]
 pub enum Step {
     Read(usize, usize),
     Wrong,

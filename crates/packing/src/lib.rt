@@ -13,7 +13,7 @@ use engines::Engine;
 use readings::Reading;
 
 // The clamped ones are the lanes of pack4xI8Clamp, where its lanes are kept apart, and of pack4xU8Clamp.
-#[derive(Drop)]
+#[derive(Clone, Copy)]
 pub enum Coding8 {
     Snorm,
     Unorm,
@@ -23,7 +23,7 @@ pub enum Coding8 {
     ClampedUnsigned,
 }
 
-#[derive(Drop)]
+#[derive(Clone, Copy)]
 pub enum Coding16 {
     Snorm,
     Unorm,
@@ -116,7 +116,7 @@ fn code8(reading: Reading, t: Coding8, x: u32) -> u8
 }
 
 // A code of 16 bits and the number of what was lost.
-#[derive(Drop)]
+#[derive(Clone, Copy)]
 pub struct Coded16 {
     pub code: u16,
     pub loss: u8,
@@ -194,7 +194,7 @@ fn lane16(t: Coding16, c: u16) -> u32
 // ---- engines
 
 // The table that has a coding's lanes.
-#[derive(Drop)]
+#[derive(Clone, Copy)]
 enum Table {
     Snorm,
     Unorm,
@@ -284,7 +284,7 @@ fn larger(a: u8, b: u8) -> u8
 }
 
 // A word of two codes, and the larger of their losses' numbers.
-#[derive(Drop)]
+#[derive(Clone, Copy)]
 pub struct PackedWord {
     pub word: u32,
     pub loss: u8,

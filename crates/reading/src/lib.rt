@@ -110,7 +110,7 @@ pub fn read_value(s: &[u8]) -> Reading
 // ---- values into lent words
 
 // What reading a value's text into lent words gives: the refusal's number, 0 where it is read, and the place of its fault, 0 where there is none.
-#[derive(Drop)]
+#[derive(Clone, Copy)]
 pub struct ReadInto {
     pub refusal: u8,
     pub place: usize,

@@ -2,7 +2,7 @@
 ghost use Rattle.std.specs.Prelude.{◌≡◌};
 ghost use Rattle.readings.specs.Readings.{reading_at};
 
-#[derive(Drop)]
+#[derive(Clone, Copy)]
 pub enum Reading {
     Crate,
     Text,

@@ -10,7 +10,7 @@ ghost use Rattle.rounding.specs.Program.{Sized, outward, is_away, is_round, lift
 use half::{choose, power};
 use values::Scalar;
 
-#[derive(Drop)]
+#[derive(Clone, Copy)]
 pub enum Way {
     Floor,
     Ceil,

@@ -7,7 +7,7 @@ ghost use Rattle.spelling.specs.Hex.{digit_count, digit_of, DigitTable};
 use values::{Scalar, Value};
 
 // What is wrong with a spelling: nothing, the type or the colon, the count of lanes, a digit.
-#[derive(Drop)]
+#[derive(Clone, Copy)]
 pub enum Fault {
     Nothing,
     TypeSpelling,
@@ -16,7 +16,7 @@ pub enum Fault {
 }
 
 // What reading a value spelling gives: no fault and the value, or the fault, its place from 1 and the empty value.
-#[derive(Drop)]
+#[derive(Clone, Copy)]
 pub struct Reading {
     pub fault: Fault,
     pub place: usize,

@@ -20,7 +20,7 @@ pub type Space = [u8; SPACE];
 
 // Part of the input that is done with: `size` bytes of it, `used` bytes of answers, and whether the next byte belongs to a line
 // that is answered already.
-#[derive(Drop)]
+#[derive(Clone, Copy)]
 pub struct Part {
     pub size: usize,
     pub used: usize,
@@ -30,7 +30,7 @@ pub struct Part {
 // What stands in the input buffer and what comes next: the bytes from `at` up to `have` are read and not yet answered; `skip`: they start
 // amid a line that is answered already; `last`: no byte comes after them. `used` bytes of answers are to be written first; then more is to
 // be read behind `have` (`reads`), or all is done (`done`), or neither.
-#[derive(Drop)]
+#[derive(Clone, Copy)]
 pub struct Held {
     pub at: usize,
     pub have: usize,

@@ -10,7 +10,7 @@ use stream::Space;
 pub const PART_LINES: usize = 4096;
 
 // How many lines are done in all, and how many bytes the last of them took.
-#[derive(Drop)]
+#[derive(Clone, Copy)]
 pub struct DiffPart {
     pub done: usize,
     pub used: usize,

@@ -5,7 +5,7 @@ ghost use Rattle.std.specs.Prelude.{◌≡◌, cond, ◌*◌, ◌≤◌, ltb};
 ghost use Rattle.values.specs.Value.{size_of, of_width, scalar_of, lane_count, is_type, shaped, place, kind_at, same_kind, empty_value};
 ghost use Rattle.values.specs.Program.{low};
 
-#[derive(Drop)]
+#[derive(Clone, Copy)]
 pub enum Scalar {
     Boolean,
     I32,
@@ -14,13 +14,13 @@ pub enum Scalar {
     F16,
 }
 
-#[derive(Drop)]
+#[derive(Clone, Copy)]
 pub enum Width {
     Single,
     Half,
 }
 
-#[derive(Drop)]
+#[derive(Clone, Copy)]
 pub enum Size {
     Two,
     Three,
@@ -28,7 +28,7 @@ pub enum Size {
 }
 
 // Empty is no type: it is the empty value's.
-#[derive(Drop)]
+#[derive(Clone, Copy)]
 pub enum Kind {
     Empty,
     One(Scalar),
@@ -36,7 +36,7 @@ pub enum Kind {
     Mat(Size, Size, Width),
 }
 
-#[derive(Drop)]
+#[derive(Clone, Copy)]
 pub struct Value {
     pub kind: Kind,
     pub lanes: [u64; 16],

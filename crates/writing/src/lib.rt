@@ -51,7 +51,7 @@ pub fn put_value(out: &mut [u8], at: usize, w: &[u64], from: usize) -> usize
 // ---- values into lent memory
 
 // What writing a value gives: the refusal's number, 0 where it is written, and the length of its text.
-#[derive(Drop)]
+#[derive(Clone, Copy)]
 pub struct Written {
     pub refusal: u8,
     pub len: usize,

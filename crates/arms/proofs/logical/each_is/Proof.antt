@@ -1,6 +1,6 @@
 -- Four tests joined to the left are the test of each of the first n of a list of four: by n. Assumes nothing.
 use Prim.Native.Nat.{ℕ, zero, suc}
-use mathlib.Core.Bool.{◌&&◌, ◌||◌, and_assoc, and-true, or_true, or-false}
+use mathlib.Core.Bool.{◌&&◌, ◌||◌, and_assoc, and-true, or-true, or-false}
 use mathlib.Core.List.{List, [], ◌∷◌}
 use mathlib.Core.Path.{◌≡◌}
 use native.Mathlib.Omega.{arith}
@@ -14,10 +14,10 @@ use Rattle.arms.proofs.logical.each_is.Statement.{statement}
 use Rattle.arms.proofs.logical.each_is.Tie as tie
 
 each_of : (v n a b c d : ℕ) → (eqb a v || ltb n 1) && (eqb b v || ltb n 2) && (eqb c v || ltb n 3) && (eqb d v || ltb n 4) ≡ every (λ y. eqb y v) (take n (a ∷ b ∷ c ∷ d ∷ []))
-each_of v zero a b c d = simp or_true
-each_of v (suc zero) a b c d = simp (or_true, or-false, and-true)
-each_of v (suc (suc zero)) a b c d = simp (or_true, or-false, and-true)
-each_of v (suc (suc (suc zero))) a b c d = simp (or_true, or-false, and-true, and_assoc)
+each_of v zero a b c d = simp or-true
+each_of v (suc zero) a b c d = simp (or-true, or-false, and-true)
+each_of v (suc (suc zero)) a b c d = simp (or-true, or-false, and-true)
+each_of v (suc (suc (suc zero))) a b c d = simp (or-true, or-false, and-true, and_assoc)
 each_of v (suc (suc (suc (suc n)))) a b c d =
     let m = suc (suc (suc (suc n))) in
     rw (le-ltb m 1 (omega arith), le-ltb m 2 (omega arith), le-ltb m 3 (omega arith), le-ltb m 4 (omega arith), take-nil n) (simp (or-false, and-true, and_assoc))
