@@ -1,4 +1,6 @@
 // An answer as text: its values, written from the answer's words into lent memory.
+#![tactic(auto)]
+
 ghost use Rattle.std.specs.Prelude.{◌≡◌, ◌+◌, ◌≤◌, ◌<◌, length};
 ghost use Rattle.values.specs.Value.{kind_at};
 ghost use Rattle.buffers.specs.Memory.{put};

@@ -1,4 +1,6 @@
 // What each builtin gives for a call whose first value is a scalar or a vector: its arm tests the call by the shape of its row, and works on four lanes. The lanes are the crates' below.
+#![tactic(auto)]
+
 mod bitcast;
 mod logical;
 mod numbers;

@@ -1,4 +1,6 @@
 // A whole material in one call, as records: each call is handed by value to the single fold. materials' specs/Materials says what it gives.
+#![tactic(auto)]
+
 ghost use Rattle.std.specs.Prelude.{◌≡◌, length};
 ghost use Rattle.materials.specs.Materials.{refusal_all, results_of};
 

@@ -1,4 +1,6 @@
 // Bytes compared, found, and written into lent memory.
+#![tactic(auto)]
+
 ghost use Rattle.std.specs.Prelude.{◌≡◌, cond, ◌+◌, ◌≤◌, ◌<◌, leb, length, take, drop};
 ghost use Rattle.buffers.specs.Text.{same_bytes, place_of};
 ghost use Rattle.buffers.specs.Memory.{put, fits};

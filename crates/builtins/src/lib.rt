@@ -1,4 +1,6 @@
 // What a call gives: of a call of words, the words of its answer. What it means is in specs/: `fold_in` gives the answer of every call in each reading.
+#![tactic(auto)]
+
 mod matrix;
 
 ghost use Rattle.std.specs.Prelude.{◌≡◌, [], ◌∷◌, ◌≤◌, length, take};

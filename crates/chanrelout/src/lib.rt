@@ -1,5 +1,7 @@
 // What a C or Rust program links: `rt staticlib chanrelout` writes target/staticlib/libchanrelout.a. Numbers pass as themselves, a slice as a
 // pointer and a length. bindings/ has the C header and the Rust crate.
+#![tactic(auto)]
+
 ghost use Rattle.std.specs.Prelude.{◌≡◌, cond, ◌&&◌, [], length};
 ghost use Rattle.readings.specs.Readings.{is_reading, reading_at};
 ghost use Rattle.engines.specs.Engines.{is_engine};

@@ -1,4 +1,6 @@
 // Whether a value is well formed: its lanes in use below the bound of their scalar, the others 0.
+#![tactic(auto)]
+
 ghost use Rattle.std.specs.Prelude.{◌≡◌, ◌&&◌, cond, ◌^◌, ◌≤◌, ltb, eqb, length, take, drop, get_or};
 ghost use Rattle.values.specs.Value.{lane_bits, every, well_formed};
 

@@ -1,4 +1,6 @@
 // What of the bytes at hand is a line, and what of a buffer is kept for later.
+#![tactic(auto)]
+
 ghost use Rattle.std.specs.Prelude.{◌≡◌, cond, ◌+◌, ◌-◌, ◌<◌, ◌≤◌, min, eqb, length};
 ghost use Rattle.buffers.specs.Memory.{put};
 ghost use Rattle.cutting.specs.Cutting.{first_line, held_of};

@@ -1,4 +1,6 @@
 // How two listings differ: the kind of each line, and the first line that differs as it stands in its listing.
+#![tactic(auto)]
+
 ghost use Rattle.std.specs.Prelude.{◌≡◌, cond, ◌+◌, ◌≤◌, max, length};
 ghost use Rattle.buffers.specs.Memory.{put};
 ghost use Rattle.diffs.specs.Diffs.{both_refusal, compared_in, kinds_in, first_difference};

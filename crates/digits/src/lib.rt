@@ -1,4 +1,6 @@
 // Lanes, each read as one test and put where it belongs.
+#![tactic(auto)]
+
 ghost use Rattle.std.specs.Prelude.{◌≡◌, ◌+◌, ◌*◌, ◌^◌, ◌≤◌, ◌<◌, length, take, drop, get_or};
 ghost use Rattle.buffers.specs.Text.{byte};
 ghost use Rattle.buffers.specs.Memory.{put};

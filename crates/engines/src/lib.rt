@@ -1,4 +1,6 @@
 // The engine by which a call is folded: arithmetic, or tables, by which the two 8-bit norm formats do without a float operation in the crate's reading (Q-11). What a call gives is the same.
+#![tactic(auto)]
+
 ghost use Rattle.std.specs.Prelude.{◌≡◌};
 ghost use Rattle.engines.specs.Engines.{engine_at};
 

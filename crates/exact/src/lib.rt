@@ -1,4 +1,6 @@
 // Lanes of the norm formats as the text packs them: from an f32's bit pattern by integers alone, with nothing rounded before the end.
+#![tactic(auto)]
+
 ghost use Rattle.std.specs.Prelude.{◌≡◌, cond, ◌+◌, ◌-◌, ◌*◌, ◌%◌, ◌^◌, ◌≤◌, ◌<◌};
 ghost use Rattle.exact.specs.Exact.{floor_half, exact_code};
 

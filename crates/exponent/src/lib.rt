@@ -1,4 +1,6 @@
 // Lanes of frexp and ldexp, over 32 bits: f32 and i32 lanes as their bits, f16 lanes in the low 16. By integers alone.
+#![tactic(auto)]
+
 ghost use Rattle.std.specs.Prelude.{◌≡◌, ◌+◌, ◌*◌, ◌^◌, ◌<◌, ◌≤◌};
 ghost use Rattle.std.specs.Float.Ieee.{up, down};
 ghost use Rattle.half.specs.Format.{f32, units, magnitude_of};

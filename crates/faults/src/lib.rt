@@ -1,4 +1,6 @@
 // The fault of a spelling, worked out once there is one.
+#![tactic(auto)]
+
 ghost use Rattle.std.specs.Prelude.{◌≡◌, ◌+◌, ◌^◌, ◌≤◌, ◌<◌, true, length, take, drop};
 ghost use Rattle.values.specs.Value.{kind_at};
 ghost use Rattle.spelling.specs.Hex.{digit_bound, digits_below, DigitTable};

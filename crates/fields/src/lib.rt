@@ -1,4 +1,6 @@
 // A line's fields.
+#![tactic(auto)]
+
 ghost use Rattle.std.specs.Prelude.{◌≡◌, ◌+◌, ◌≤◌, cond, drop};
 ghost use Rattle.fields.specs.Fields.{field_at, argument_count};
 

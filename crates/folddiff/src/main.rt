@@ -1,4 +1,6 @@
 // Prints how the listings left.txt and right.txt of the folder that it is run in differ.
+#![tactic(auto)]
+
 ghost use Rattle.std.specs.Prelude.{◌≤◌, length};
 
 use libc::STDOUT_FILENO;

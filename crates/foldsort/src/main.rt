@@ -1,4 +1,6 @@
 // Prints the lines of a listing from standard input in order. More than a listing may have is never read: it is refused by then.
+#![tactic(auto)]
+
 ghost use Rattle.std.specs.Prelude.{◌≤◌};
 ghost use Rattle.stream.specs.Stream.{space};
 

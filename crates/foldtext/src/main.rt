@@ -1,4 +1,6 @@
 // Prints the answer of each line of the standard input, in the text's reading.
+#![tactic(auto)]
+
 use readings::Reading;
 
 fn main() {

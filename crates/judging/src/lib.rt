@@ -1,4 +1,6 @@
 // Which calls of words are refused, and what an arm of the fold tests.
+#![tactic(auto)]
+
 mod refuse;
 pub mod tests;
 

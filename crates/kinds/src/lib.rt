@@ -1,4 +1,6 @@
 // How two answer lines differ.
+#![tactic(auto)]
+
 ghost use Rattle.std.specs.Prelude.{◌≡◌, map, ◌<◌, ◌≤◌, take};
 ghost use Rattle.buffers.specs.Text.{same_bytes};
 ghost use Rattle.kinds.specs.Kinds.{kind_number, normal_float, normal_lane, same_types, same_lanes, same_answers, answer_kind, line_kind};

@@ -1,4 +1,6 @@
 // Lanes written as digits.
+#![tactic(auto)]
+
 ghost use Rattle.std.specs.Prelude.{◌≡◌, ◌∷◌, ◌+◌, ◌≤◌, length, take};
 ghost use Rattle.buffers.specs.Text.{byte};
 ghost use Rattle.buffers.specs.Memory.{put};

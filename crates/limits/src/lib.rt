@@ -1,4 +1,6 @@
 // min, max, clamp, saturate and step. A lane that goes by numbers is chosen by a test; an f32 lane is compared as the float that it stands for.
+#![tactic(auto)]
+
 ghost use Rattle.std.specs.Prelude.{◌≡◌, from_bits};
 ghost use Rattle.std.specs.Float.{binary32};
 ghost use Rattle.std.specs.Float.Ieee.{le};

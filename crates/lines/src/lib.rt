@@ -1,4 +1,6 @@
 // A line folded: the call that its fields spell, as words, and the answer's text in lent memory.
+#![tactic(auto)]
+
 ghost use Rattle.std.specs.Prelude.{◌≡◌, ◌≤◌, length};
 ghost use Rattle.buffers.specs.Memory.{put};
 ghost use Rattle.calls.specs.Table.{builtin_at};

@@ -1,4 +1,6 @@
 // Listings of answer lines: a line read, and a listing taken apart into its lines and judged.
+#![tactic(auto)]
+
 ghost use Rattle.std.specs.Prelude.{◌≡◌, cond, [], ◌∷◌, drop};
 ghost use Rattle.values.specs.Value.{every};
 ghost use Rattle.fields.specs.Fields.{fields};

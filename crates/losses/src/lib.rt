@@ -1,4 +1,6 @@
 // From an f32's bit pattern to a half's, and what was lost on the way.
+#![tactic(auto)]
+
 ghost use Rattle.std.specs.Prelude.{◌≡◌, ◌≤◌, eqb};
 ghost use Rattle.half.specs.Convert.{half_of, single_of};
 ghost use Rattle.losses.specs.Losses.{loss_number, loss_of, told_of};

@@ -1,4 +1,6 @@
 // A whole material in one call, as words: calls of 54 words one after another, answers of 36. specs/Materials says what it gives, of records too.
+#![tactic(auto)]
+
 ghost use Rattle.std.specs.Prelude.{◌≡◌, cond, [], ◌∷◌, ◌+◌, ◌≤◌, ◌<◌, ◌-◌, min, eqb, length, replicate};
 ghost use Rattle.buffers.specs.Memory.{put};
 ghost use Rattle.calls.specs.Words.{call_of};

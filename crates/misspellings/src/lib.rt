@@ -1,4 +1,6 @@
 // Which field of a line is wrongly spelled, what is wrong with it and where, worked out once a line is known to have such a field.
+#![tactic(auto)]
+
 ghost use Rattle.std.specs.Prelude.{◌≡◌, ◌+◌, ◌≤◌, length};
 ghost use Rattle.fields.specs.Fields.{field_at};
 ghost use Rattle.misspellings.specs.Misspellings.{misspelled, type_fault, value_fault, field_fault, in_line, line_fault};

@@ -1,4 +1,6 @@
 // Lanes that are moved and not worked on: those of select and bitcast, four of 32 bits, and the columns of a matrix. 01: "select, transpose and bitcast keep all bits".
+#![tactic(auto)]
+
 pub mod matrix;
 
 ghost use Rattle.std.specs.Prelude.{◌≡◌};

@@ -1,4 +1,6 @@
 // The builtins' names, read.
+#![tactic(auto)]
+
 ghost use Rattle.std.specs.Prelude.{◌≡◌, ◌-◌, ◌<◌};
 ghost use Rattle.calls.specs.Table.{builtin_at};
 ghost use Rattle.buffers.specs.Text.{same_bytes};

@@ -1,4 +1,6 @@
 // Calls nested on one line, folded: those among the arguments first, from left to right, then the call itself.
+#![tactic(auto)]
+
 ghost use Rattle.std.specs.Prelude.{◌≡◌, ◌+◌, ◌-◌, ◌<◌, ◌≤◌, length, take, drop};
 ghost use Rattle.misspellings.specs.Misspellings.{rightly};
 ghost use Rattle.nesting.specs.Read.{refusal_of};

@@ -1,4 +1,6 @@
 // Calls nested on one line: Q-8's grammar, read.
+#![tactic(auto)]
+
 ghost use Rattle.std.specs.Prelude.{◌≡◌, cond, ◌+◌, ◌<◌, ◌≤◌, max, length, get_or};
 ghost use Rattle.values.specs.Value.{every};
 ghost use Rattle.nesting.specs.Grammar.{letter_or_digit, plain, is_nested};

@@ -1,4 +1,6 @@
 // Lanes of the norm formats. The formats differ in two things, as their definitions do: whether codes are signed, and their width w.
+#![tactic(auto)]
+
 ghost use Rattle.std.specs.Prelude.{◌≡◌, true, false, cond, ◌/◌, ◌^◌, ◌≤◌, ◌<◌, min, T, pos};
 ghost use Rattle.std.specs.Float.{binary32};
 ghost use Rattle.std.specs.Float.Ieee.{lt, le, of_int, fits};

@@ -1,4 +1,6 @@
 // Answers as one number each, for programs that link the library: a refusal, or how much there is of an answer.
+#![tactic(auto)]
+
 ghost use Rattle.std.specs.Prelude.{◌≡◌, ◌+◌, ◌<◌, ◌≤◌};
 ghost use Rattle.numbers.specs.Number.{told_number, refusal_or_count, line_number, read_number, written_number, sort_number, diff_number, side_number, place_number};
 

@@ -1,4 +1,6 @@
 // Lanes of the numeric builtins, over 32 bits: i32, u32 and f32 lanes as their bits, f16 lanes in the low 16.
+#![tactic(auto)]
+
 ghost use Rattle.std.specs.Prelude.{◌≡◌, cond, ◌+◌, ◌%◌, ◌^◌, ◌<◌, leb, ltb, eqb};
 ghost use Rattle.half.specs.Format.{f16, f32};
 ghost use Rattle.values.specs.Program.{four};

@@ -1,4 +1,6 @@
 // The lanes of packed words. A format is the width of its lanes, 8 or 16, and a coding: how a lane becomes a code of that width, and a code a lane.
+#![tactic(auto)]
+
 ghost use Rattle.std.specs.Prelude.{◌≡◌, true, false, [], ◌∷◌, ◌++◌, map, ◌%◌, ◌^◌, ◌<◌, max, take};
 ghost use Rattle.half.specs.Convert.{half_of};
 ghost use Rattle.values.specs.Program.{four};

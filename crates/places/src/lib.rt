@@ -1,5 +1,7 @@
 // Types by their places, 0 to 38: the scalars and then the vectors stand five to a length, 1 to 20, the matrices nine to a width behind them. No
 // table: one that is read by a place is copied each time.
+#![tactic(auto)]
+
 ghost use Rattle.std.specs.Prelude.{◌≡◌, cond, ◌||◌, ◌+◌, ◌-◌, ◌*◌, ◌/◌, ◌^◌, ◌≤◌, ◌<◌, eqb, ltb};
 ghost use Rattle.values.specs.declared.Scalar.TheVariants.{Boolean, I32};
 ghost use Rattle.values.specs.Value.{lane_bits, scalar_of, lane_count, shaped, place, kind_at};

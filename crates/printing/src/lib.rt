@@ -1,4 +1,6 @@
 // Bytes, decimal digits and a refusal's text, written into lent memory that has room for them.
+#![tactic(auto)]
+
 ghost use Rattle.std.specs.Prelude.{◌≡◌, [], ◌∷◌, ◌+◌, ◌<◌, ◌≤◌, length};
 ghost use Rattle.buffers.specs.Memory.{put};
 ghost use Rattle.printing.specs.Decimal.{digits, places, refused_text, place_text, refused_at};

@@ -1,4 +1,6 @@
 // cross and dot. Floats: each operation rounded once, in the order written. Integer products and sums wrap at 32 bits.
+#![tactic(auto)]
+
 ghost use Rattle.std.specs.Prelude.{◌≡◌, ◌-◌, ◌*◌, ◌%◌, ◌^◌, ◌<◌, min, [], ◌∷◌, from_bits, slice_index};
 ghost use Rattle.std.specs.Float.{binary32};
 ghost use Rattle.std.specs.Float.Ieee.{mul};

@@ -1,4 +1,6 @@
 // Prints the answer of each line of the standard input, in the reading that the program chooses.
+#![tactic(auto)]
+
 ghost use Rattle.std.specs.Prelude.{◌-◌, ◌≤◌, ◌<◌, cond, ◌≡◌, length};
 ghost use Rattle.buffers.specs.Memory.{put};
 ghost use Rattle.stream.specs.Stream.{step_lines, text_of};

@@ -1,4 +1,6 @@
 // Values read from their spellings, straight into words.
+#![tactic(auto)]
+
 ghost use Rattle.std.specs.Prelude.{◌≡◌, ◌+◌, ◌≤◌, ◌<◌, length, take};
 ghost use Rattle.buffers.specs.Text.{place_of};
 ghost use Rattle.buffers.specs.Memory.{put};

@@ -1,4 +1,6 @@
 // The reading by which a call is folded: the crate's, or the text's, in which the packers of norm lanes and of clamped integer lanes are as the specification writes them (Q-1).
+#![tactic(auto)]
+
 ghost use Rattle.std.specs.Prelude.{◌≡◌};
 ghost use Rattle.readings.specs.Readings.{reading_at};
 

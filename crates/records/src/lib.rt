@@ -1,4 +1,6 @@
 // 01's records as a view of the fold of words: a call by value, and its answer by value.
+#![tactic(auto)]
+
 ghost use Rattle.std.specs.Prelude.{◌≡◌, ◌<◌, ◌≤◌, length, replicate, get_or};
 ghost use Rattle.calls.specs.Words.{call_of};
 ghost use Rattle.builtins.specs.Fold.{fold_in, fold_of};

@@ -1,4 +1,6 @@
 // Reads of the standard input behind what a buffer holds.
+#![tactic(auto)]
+
 ghost use Rattle.std.specs.Prelude.{◌+◌, ◌^◌, ◌≤◌, ◌<◌, ◌≡◌, length, take};
 ghost use Rattle.stream.specs.Stream.{space};
 ghost use Rattle.inputs.specs.Runs.{read_of};

@@ -1,4 +1,6 @@
 // Lanes of floor, ceil, trunc, round and fract, over 32 bits: f32 lanes as their bits, f16 lanes in the low 16.
+#![tactic(auto)]
+
 ghost use Rattle.std.specs.Prelude.{◌≡◌, ◌+◌, ◌-◌, ◌^◌, ◌≤◌, ◌<◌};
 ghost use Rattle.half.specs.Format.{f16, f32};
 ghost use Rattle.half.specs.Program.{format};

@@ -1,4 +1,6 @@
 // How types and values are spelled: specs/Types, Hex, Read and Write say it, and proofs/ holds the laws. Here stand the answers of reading, and what both reading and writing ask.
+#![tactic(auto)]
+
 ghost use Rattle.std.specs.Prelude.{◌≡◌, cond, ◌<◌, ◌≤◌, length};
 ghost use Rattle.values.specs.Value.{kind_at};
 ghost use Rattle.spelling.specs.Types.{spelled};

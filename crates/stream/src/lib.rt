@@ -1,4 +1,6 @@
 // Lines of a buffer, answered one after another in the reading that the caller chooses, and what of the buffer is kept for later.
+#![tactic(auto)]
+
 ghost use Rattle.std.specs.Prelude.{◌≡◌, [], cond, ◌+◌, ◌-◌, ◌/◌, ◌≤◌, length};
 ghost use Rattle.buffers.specs.Memory.{put};
 ghost use Rattle.cutting.specs.Cutting.{held_of};

@@ -1,4 +1,6 @@
 // Lanes of the two 8-bit norm formats in the crate's reading, as norm has them, by tables: no float is added, multiplied or divided (Q-11).
+#![tactic(auto)]
+
 ghost use Rattle.std.specs.Prelude.{◌≡◌, true, false};
 ghost use Rattle.half.specs.Format.{f32, is_nan, rank};
 ghost use Rattle.values.specs.Program.{four};

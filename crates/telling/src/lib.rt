@@ -1,4 +1,6 @@
 // The text that folddiff prints: each line that differs by its number and its kind's word, in parts, or the refusal alone.
+#![tactic(auto)]
+
 ghost use Rattle.std.specs.Prelude.{◌≡◌, ◌+◌, ◌≤◌, length};
 ghost use Rattle.buffers.specs.Memory.{put};
 ghost use Rattle.stream.specs.Stream.{space};

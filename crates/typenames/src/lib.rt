@@ -1,4 +1,6 @@
 // The type that a text starts with, by its bytes, and the type that a text spells.
+#![tactic(auto)]
+
 ghost use Rattle.std.specs.Prelude.{◌≡◌, ◌+◌, ◌≤◌, ◌<◌, get_or};
 ghost use Rattle.values.specs.Value.{place};
 ghost use Rattle.spelling.specs.Types.{kind_of};

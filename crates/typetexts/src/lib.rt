@@ -1,4 +1,6 @@
 // The spelling of a type, written; a type is its place.
+#![tactic(auto)]
+
 ghost use Rattle.std.specs.Prelude.{◌≡◌, cond, [], ◌∷◌, ◌++◌, ◌+◌, ◌≤◌, ◌<◌, length};
 ghost use Rattle.values.specs.Value.{scalar_place, scalar_of, kind_at};
 ghost use Rattle.buffers.specs.Text.{bytes};

@@ -1,4 +1,6 @@
 // The value record: a type, each of whose values is a type that is taken or none, beside 16 lanes of bits.
+#![tactic(auto)]
+
 mod parts;
 
 ghost use Rattle.std.specs.Prelude.{◌≡◌, cond, ◌*◌, ◌≤◌, ltb};

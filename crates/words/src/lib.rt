@@ -1,4 +1,6 @@
 // Values as words of 64 bits: specs/Words says what stands where. They are read, checked and put where they stand; a type is its place.
+#![tactic(auto)]
+
 ghost use Rattle.std.specs.Prelude.{◌≡◌, cond, ◌&&◌, ◌+◌, ◌≤◌, ◌<◌, eqb, ltb, length, take, drop, get_or};
 ghost use Rattle.values.specs.Value.{lane_count, place, kind_at, value, empty_value, well_formed};
 ghost use Rattle.values.specs.Program.{low, four};

@@ -1,4 +1,6 @@
 // Values written as text, from the words that they stand in; a type is its place.
+#![tactic(auto)]
+
 ghost use Rattle.std.specs.Prelude.{◌≡◌, cond, ◌+◌, ◌≤◌, ◌<◌, length};
 ghost use Rattle.values.specs.Value.{place, kind_at};
 ghost use Rattle.buffers.specs.Memory.{put, fits};

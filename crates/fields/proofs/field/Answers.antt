@@ -1,0 +1,40 @@
+-- The invariant: the field that is sought is the one of what is left from `at` on that is `left` further. Assumes nothing.
+use Prim.Native.Nat.{ℕ, ◌+◌, ◌-◌, ◌≤◌}
+use mathlib.Core.List.{List}
+use mathlib.Core.Path.{◌≡◌, ap, sym, ◌∙◌}
+use native.Mathlib.Omega.{arith}
+use lib.ListN.{length, drop, take, length-drop}
+use lib.Seq.{take_all}
+use Rattle.buffers.specs.Text.{place_of}
+use Rattle.fields.proofs.Tabs.{tab_at, field_here, field_step, field_missing}
+use Rattle.fields.proofs.field.Goals as goal
+use Rattle.fields.proofs.field.Goals.{After-find-n}
+
+tail : (line : List ℕ) (at : ℕ) → take (length line - at) (drop at line) ≡ drop at line
+tail line at = take_all (length line - at) (drop at line) (omega (arith, length-drop at line))
+
+found : (c : After-find-n invariant-loop decreases-loop) → c.find.result ≡ tab_at (drop c.before.before.before.loop.at c.before.before.before.before.before.args.line.now)
+found c = c.find.ensures.0 ∙ ap (place_of 9) (tail c.before.before.before.before.before.args.line.now c.before.before.before.loop.at)
+
+found_within : (c : After-find-n invariant-loop decreases-loop) → c.find.result ≤ length (drop c.before.before.before.loop.at c.before.before.before.before.before.args.line.now)
+found_within c = rw (tail c.before.before.before.before.before.args.line.now c.before.before.before.loop.at) at c.find.ensures.1
+
+pub returns-then-n-line : goal.returns-then-n-line
+returns-then-n-line c =
+    let line = c.args.line.now in
+    let l = c.loop-left in
+    sym (l.invariant.1 ∙ field_missing (drop l.at line) c.find-n.result l.left c.loop-left-test.true (found (goal.at.returns-then-n-line c).After-find-n) (omega (arith, c.if-n-line.true, length-drop l.at line)))
+
+pub loop-left-preserved : goal.loop-left-preserved
+loop-left-preserved c =
+    let line = c.args.line.now in
+    let l = c.loop-left in
+    (omega (arith, found_within (goal.at.loop-left-preserved c).After-find-n), l.invariant.1 ∙ field_step line l.at c.find-n.result l.left c.loop-left-test.true (found (goal.at.loop-left-preserved c).After-find-n))
+
+pub returns : goal.returns
+returns c =
+    let line = c.args.line.now in
+    let l = c.loop-left in
+    let n : l.at + c.find.result - l.at ≡ tab_at (drop l.at line) = omega (arith, c.find.ensures.0 ∙ ap (place_of 9) (tail line l.at)) in
+    let last : l.left ≡ 0 = omega arith in
+    sym (l.invariant.1 ∙ rw (last, n) (field_here (drop l.at line)))

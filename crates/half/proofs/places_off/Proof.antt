@@ -1,9 +1,0 @@
--- One answer for each side of the test. Assumes nothing.
-use borrow.Author.Rules.{rules}
-use borrow.Author.Tests.{lt-ltb, le-ltb}
-use Rattle.half.proofs.places_off.Statement.{statement}
-use Rattle.half.proofs.places_off.Tie as tie
-
-pub places-off-spec : {M : Type 1} → statement M
-places-off-spec =
-    tie.close (tie.spec (λ c. search rules) (λ c. rw (lt-ltb _ _ c.if1.true)) (λ c. rw (le-ltb _ _ c.if1.false)))

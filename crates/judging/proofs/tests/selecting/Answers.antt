@@ -1,0 +1,9 @@
+-- What the callees ensure, put together, is the test of the shape, and `arm` says when it passes. Assumes nothing.
+use mathlib.Core.Path.{refl}
+use Rattle.values.proofs.Places.{there}
+use Rattle.calls.specs.declared.table.Shape.TheVariants.{Selecting}
+use Rattle.calls.proofs.Converse.{arm}
+use Rattle.judging.proofs.tests.selecting.Goals as goal
+
+pub returns : goal.returns
+returns c = rw (c.is_condition.ensures, c.is_at.ensures, c.requires.type, there) (let a = c.args in arm a.w.now a.p a.n a.set c.requires Selecting refl)

@@ -1,0 +1,94 @@
+-- The length is that of a text of the type, at most 155. What is found is what the field spells, as `is_found`, `none_ended` and `none_found` say. Assumes nothing.
+use Prim.Native.Nat.{ℕ, ◌+◌, ◌*◌, ◌≤◌}
+use mathlib.Core.Bool.{true}
+use mathlib.Core.List.{List}
+use mathlib.Core.Path.{◌≡◌, ap, sym, ◌∙◌}
+use native.Mathlib.Nat.{mul-le-mul, sub-zero}
+use native.Mathlib.Omega.{arith}
+use borrow.Author.Tests.{not-true, not-false}
+use lib.ListN.{length, take, length-set}
+use lib.Seq.{length-take-le}
+use Rattle.values.specs.declared.Kind.{Kind}
+use Rattle.values.specs.Value.{kind_at, empty_value}
+use Rattle.buffers.specs.Memory.{put}
+use Rattle.words.specs.Words.{words_of}
+use Rattle.spelling.specs.Write.{text_length}
+use Rattle.reading.specs.Program.{ends}
+use Rattle.reading.proofs.Fields.{lanes_in, lanes_most, lanes_parts, ends_within, none_ended, none_found, is_found}
+use Rattle.reading.proofs.WordPuts.{value_put, cleared_again, lanes_after}
+use Rattle.reading.proofs.value_into.Goals as goal
+use Rattle.reading.proofs.value_into.Goals.{After-digit_count, After-lanes_into, Else-not-ends_at}
+
+-- what the program has in hand: the type's place, the length, the text and the lanes in it
+abbrev kind : After-digit_count → Kind
+kind d = kind_at d.before.before.before.before.type-from.result
+
+abbrev len : After-digit_count → ℕ
+len d = d.before.type-len.result + d.before.before.count_at.result * (d.digit-count.result + 1)
+
+abbrev text : After-digit_count → List ℕ
+text d = d.before.before.before.before.before.before.before.before.before.before.before.args.t.now
+
+abbrev lanes : After-digit_count → List ℕ
+lanes d = lanes_in (kind d) (take (len d) (text d))
+
+lanes_length : (d : After-digit_count) → d.before.before.count_at.result * (d.digit-count.result + 1) ≤ 144
+lanes_length d =
+    let n : d.digit-count.result + 1 ≤ 9 = omega arith in
+    mul-le-mul d.before.before.count_at.ensures.1 n
+
+text_length_lem : (d : After-digit_count) → len d ≡ text_length (kind d)
+unfolding text_length
+text_length_lem d = rw (d.digit-count.ensures.0, d.before.type-len.ensures.0, d.before.before.count_at.ensures.0, d.before.before.before.scalar-at.ensures)
+
+ended : (c : Else-not-ends_at) → ends (text (?c.before.before).After-digit_count) (len (?c.before.before).After-digit_count) ≡ true
+ended c = sym c.ends_at.ensures ∙ not-false _ c.if-not-ends_at.false
+
+within : (c : Else-not-ends_at) → len (?c.before.before).After-digit_count ≤ length (text (?c.before.before).After-digit_count)
+within c = ends_within (text (?c.before.before).After-digit_count) (len (?c.before.before).After-digit_count) (ended c)
+
+-- the memory with the lanes
+lanes_put : (c : After-lanes_into)
+    → let a = c.args in
+    (c.lanes_into.result ≡ length (lanes (?d).After-digit_count)) × (c.lanes_into.new.w ≡ put (put a.w.now a.at (words_of empty_value)) (a.at + 1) (lanes (?d).After-digit_count)) × (length (lanes (?d).After-digit_count) ≤ 16)
+lanes_put c =
+    let e = lanes_parts (text (?d).After-digit_count) (len (?d).After-digit_count) (kind (?d).After-digit_count) c.scalar_at-s.ensures c.count_at-n.ensures.0 c.type_len-start.ensures.0 in (
+      c.lanes_into.ensures.0 ∙ ap length e,
+      lanes_after _ _ (lanes (?d).After-digit_count) c.clear.ensures c.lanes_into.ensures.1 e,
+      (lanes_most (kind (?d).After-digit_count) (take (len (?d).After-digit_count) (text (?d).After-digit_count))).1,
+    )
+
+pub overflow_mul-len : goal.overflow_mul-len
+overflow_mul-len c = record { fits = omega (arith, lanes_length c) }
+
+pub overflow_add-len-2 : goal.overflow_add-len-2
+overflow_add-len-2 c = record { fits = omega (arith, lanes_length c) }
+
+pub returns-then-not-ends_at : goal.returns-then-not-ends_at
+returns-then-not-ends_at c =
+    let t = c.args.t.now in
+    let e = none_ended t c.type_from-p.ensures.0 (text_length_lem (goal.at.returns-then-not-ends_at c).After-digit_count) (sym c.ends_at.ensures ∙ not-true _ c.if-not-ends_at.true) in
+    (λ h. absurd (omega arith), rw e c.clear.ensures)
+
+pub lanes_into-requires : goal.lanes_into-requires
+lanes_into-requires c =
+    let t = c.args.t.now in (
+      c.requires.1,
+      omega (arith, c.w-1.given, c.count_at-n.ensures.1, c.requires.0),
+      rw (sub-zero, ← c.digit_count.ensures.0, length-take-le _ t (within (goal.at.lanes_into-requires c).Else-not-ends_at)) (omega arith),
+    )
+
+pub returns-then-lanes_into-n : goal.returns-then-lanes_into-n
+returns-then-lanes_into-n c =
+    let f = lanes_put (goal.at.returns-then-lanes_into-n c).After-lanes_into in
+    let e = none_found c.args.t.now c.type_from-p.ensures.0 (text_length_lem (goal.at.returns-then-lanes_into-n c).After-digit_count) (rw (← f.0, ← c.count_at-n.ensures.0) c.if-lanes_into-n.true) in
+    (λ h. absurd (omega arith), rw e (c.clear-then-lanes_into-n.ensures ∙ rw f.1 (cleared_again c.args.w.now c.args.at _ c.requires.0 f.2)))
+
+pub shape_of-w : goal.shape_of-w
+shape_of-w c = length-set c.lanes_into.new.w c.args.at _ ∙ c.w-2-1.given ∙ c.w-1.given
+
+pub returns : goal.returns
+returns c =
+    let f = lanes_put (goal.at.returns c).After-lanes_into in
+    let e = is_found c.args.t.now c.type_from-p.ensures.0 (text_length_lem (goal.at.returns c).After-digit_count) (ended (goal.at.returns c).Else-not-ends_at) (rw (← f.0, ← c.count_at-n.ensures.0) c.if-lanes_into-n.false) in
+    (e.0, rw (e.1, f.1) (value_put c.args.w.now c.args.at _ c.requires.0 f.2 c.type_from-p.ensures.1))

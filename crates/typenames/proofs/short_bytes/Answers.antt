@@ -1,0 +1,6 @@
+-- Byte by byte. Assumes nothing.
+use Rattle.typenames.proofs.short_bytes.Goals as goal
+
+pub returns : goal.returns
+returns c =
+    rw (c.byte_at-11.ensures, c.byte_at-10.ensures, c.byte_at-9.ensures, c.byte_at-8.ensures, c.byte_at-7.ensures, c.byte_at-6.ensures, c.byte_at-5.ensures, c.byte_at-4.ensures, c.byte_at-3.ensures, c.byte_at-2.ensures, c.byte_at.ensures)

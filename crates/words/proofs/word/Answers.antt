@@ -1,0 +1,7 @@
+-- Past the end a list's entry is what is said to stand there. Assumes nothing.
+use mathlib.Core.Path.{sym}
+use lib.ListN.{get_or-eq_default}
+use Rattle.words.proofs.word.Goals as goal
+
+pub returns-else-i-w : goal.returns-else-i-w
+returns-else-i-w c = sym (get_or-eq_default c.args.w.now 0 c.if-i-w.false)
