@@ -2,7 +2,7 @@
 -- and the four lanes that the program works on serve for the values'. Assumes nothing.
 use Rattle.std.proofs.Common.{◌≡◌, ℕ, zero, suc, ◌+◌, ◌-◌, ◌*◌, ◌%◌, ◌^◌, ◌≤◌, min, true, get_or, refl, ap, mod-eq_of_lt, add-one, arith}
 use native.Mathlib.Nat.{min-eq_left}
-use lib.Ieee.{binary32, to_bits, add}
+use lib.Ieee.{binary32, to_bits, of_bits, add, mul}
 use Rattle.values.specs.declared.Scalar.{Scalar}
 use Rattle.values.specs.declared.Scalar.TheVariants.{Boolean, I32, U32, F32, F16}
 use Rattle.values.specs.declared.Value.{Value}
@@ -28,7 +28,7 @@ module _ (a a' b b' : ℕ → ℕ) (n : ℕ) (e : (i : ℕ) → i ≤ n → a i 
   same_lanes_lem Boolean = refl
   same_lanes_lem I32 = words
   same_lanes_lem U32 = words
-  same_lanes_lem F32 = ap (to_bits binary32) (same_terms (add binary32) _ _ n (λ i h. rw (e i h, f i h)))
+  same_lanes_lem F32 = ap (to_bits binary32) (same_terms (add binary32) (λ i. mul binary32 (of_bits binary32 (a i)) (of_bits binary32 (b i))) (λ i. mul binary32 (of_bits binary32 (a' i)) (of_bits binary32 (b' i))) n (λ i h. rw (e i h, f i h)))
   same_lanes_lem F16 = refl
 
 -- ---- the four lanes that the program works on are those of a well-formed value, and a scalar or a vector has no more

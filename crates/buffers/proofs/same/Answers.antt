@@ -39,14 +39,14 @@ loop-i-2-init c = (search rules, refl)
 
 pub returns-then-not-eight_same : goal.returns-then-not-eight_same
 returns-then-not-eight_same c =
-    let t = sym c.eight_same.ensures ∙ not-true c.eight_same.result c.if-not-eight_same.true in
+    let t = sym c.eight_same.ensures ∙ c.if-not-eight_same.true in
     sym (same_false _ _ (λ e. not_same _ _ t (ap (λ (s : List ℕ). take 8 (drop c.loop-i-2.i s)) e)))
 
 pub loop-i-2-preserved : goal.loop-i-2-preserved
 loop-i-2-preserved c =
     let a = c.args in
     let l = c.loop-i-2 in
-    let e = same_true _ _ (sym c.eight_same.ensures ∙ not-false c.eight_same.result c.if-not-eight_same.false) in
+    let e = same_true _ _ (sym c.eight_same.ensures ∙ c.if-not-eight_same.false) in
     (search rules, rw (take-add l.i 8 a.a.now, take-add l.i 8 a.b.now, l.invariant.1, e))
 
 pub returns : goal.returns

@@ -41,7 +41,7 @@ tested c = of_type (value_at c.args.w.now 3) (rw c.place_at-p.ensures.0 at c.for
 first : (c : Else-not-formed_as) → First c.args.w.now c.place_at-p.result
 first c =
     record {
-      formed = sym (tested (?c.before).After-formed_as) ∙ not-false _ c.if-not-formed_as.false;
+      formed = sym (tested (?c.before).After-formed_as) ∙ c.if-not-formed_as.false;
       type = c.place_at-p.ensures.0;
       known = let h = c.if-p-eq0.false in omega arith;
       within = c.if-p-gt-LAST_VECTOR.false;
@@ -63,7 +63,7 @@ returns-then-p-eq0 c =
 pub returns-then-not-formed_as : goal.returns-then-not-formed_as
 returns-then-not-formed_as c =
     let a = c.args in
-    let t = told_refused a.reading a.out.now a.w.now (eqb-false _ 0 (unformed a.w.now (sym (tested (goal.at.returns-then-not-formed_as c).After-formed_as) ∙ not-true _ c.if-not-formed_as.true))) in
+    let t = told_refused a.reading a.out.now a.w.now (eqb-false _ 0 (unformed a.w.now (sym (tested (goal.at.returns-then-not-formed_as c).After-formed_as) ∙ c.if-not-formed_as.true))) in
     (c.refusal-then-not-formed_as.ensures ∙ t.0, t.1)
 
 pub bounds-w-0 : goal.bounds-w-0

@@ -124,5 +124,5 @@ returns c =
     let d = c.leading-d in
     let l = d.ensures in (
       digits a.e a.p a.x _ _ _ w u d.result.first d.result.count l c.choose-2.result c.choose-2.ensures,
-      power a.e a.p a.x _ _ _ w u d.result.first d.result.count l c.power.result c.wrapping_sub_u32.result c.power.ensures (search rules) (search rules) c.wrapping_sub_u32.ensures,
+      power a.e a.p a.x _ _ _ w u d.result.first d.result.count l c.power.result c.wrapping_sub_u32.result c.power.ensures (search rules) (search rules) c.wrapping_sub_u32.ensures.value,
     )

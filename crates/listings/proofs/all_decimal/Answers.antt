@@ -13,14 +13,14 @@ pub returns-then-not-is_decimal : goal.returns-then-not-is_decimal
 returns-then-not-is_decimal c =
     let s = c.args.s.now in
     let l = c.loop-i in
-    let f = not-true c.is_decimal.result c.if-not-is_decimal.true in
+    let f = c.if-not-is_decimal.true in
     sym (l.invariant.1 ∙ decimal_more s l.i c.loop-i-test.true c.is_decimal.ensures ∙ rw f)
 
 pub loop-i-preserved : goal.loop-i-preserved
 loop-i-preserved c =
     let s = c.args.s.now in
     let l = c.loop-i in
-    let f = not-false c.is_decimal.result c.if-not-is_decimal.false in
+    let f = c.if-not-is_decimal.false in
     (search rules, l.invariant.1 ∙ decimal_more s l.i c.loop-i-test.true c.is_decimal.ensures ∙ rw f)
 
 pub returns : goal.returns

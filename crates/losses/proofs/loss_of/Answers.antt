@@ -23,8 +23,8 @@ tested c = c.comes_back.ensures ∙ ap (λ (h : ℕ). eqb (single_of h) c.args.b
 finite : (c : Else-bits-ge2139095040) → magnitude f32 c.args.bits < infinity f32
 finite c = omega arith
 
-finite_too : (c : Else-h-eq31744) → becomes c.args.bits < infinity f16
-finite_too c = finite_half _ (finite (?c.before).Else-bits-ge2139095040) (λ e. c.if-h-eq31744.false (becomes_is (?c.before.before).Start ∙ e))
+finite_too : (c : Else-h-eq31744) → magnitude f32 c.args.bits < infinity f32 → c.args.h % 0x8000 ≡ becomes c.args.bits → becomes c.args.bits < infinity f16
+finite_too c f b = finite_half _ f (λ e. c.if-h-eq31744.false (b ∙ e))
 
 pub returns-then-bits-ge2139095040 : goal.returns-then-bits-ge2139095040
 returns-then-bits-ge2139095040 c = sym (none_lost _ (omega arith))
@@ -33,7 +33,7 @@ pub returns-then-h-eq31744 : goal.returns-then-h-eq31744
 returns-then-h-eq31744 c = sym (overflowed _ (finite (goal.at.returns-then-h-eq31744 c).Else-bits-ge2139095040) (sym (becomes_is (goal.at.returns-then-h-eq31744 c).Start) ∙ c.if-h-eq31744.true))
 
 pub returns-then-comes_back : goal.returns-then-comes_back
-returns-then-comes_back c = sym (exact _ (finite (goal.at.returns-then-comes_back c).Else-bits-ge2139095040) (finite_too (goal.at.returns-then-comes_back c).Else-h-eq31744) (eqb-true _ _ (sym (tested (goal.at.returns-then-comes_back c).After-comes_back) ∙ c.if-comes_back.true)))
+returns-then-comes_back c = sym (exact _ (finite (goal.at.returns-then-comes_back c).Else-bits-ge2139095040) (finite_too (goal.at.returns-then-comes_back c).Else-h-eq31744 (finite (goal.at.returns-then-comes_back c).Else-bits-ge2139095040) (becomes_is (goal.at.returns-then-comes_back c).Start)) (eqb-true _ _ (sym (tested (goal.at.returns-then-comes_back c).After-comes_back) ∙ c.if-comes_back.true)))
 
 pub returns : goal.returns
-returns c = sym (rounded _ (search rules) (finite (goal.at.returns c).Else-bits-ge2139095040) (finite_too (goal.at.returns c).Else-h-eq31744) (eqb-false _ _ (sym (tested (goal.at.returns c).After-comes_back) ∙ c.if-comes_back.false)))
+returns c = sym (rounded _ (search rules) (finite (goal.at.returns c).Else-bits-ge2139095040) (finite_too (goal.at.returns c).Else-h-eq31744 (finite (goal.at.returns c).Else-bits-ge2139095040) (becomes_is (goal.at.returns c).Start)) (eqb-false _ _ (sym (tested (goal.at.returns c).After-comes_back) ∙ c.if-comes_back.false)))

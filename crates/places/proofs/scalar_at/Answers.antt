@@ -41,6 +41,6 @@ returns-in-3 c =
 
 pub returns-in_default : goal.returns-in_default
 returns-in_default c =
-    let r = c.in_default.rest in
+    let r = c.in_default.in_default-own.rest in
     let e = by_five c.args.p c.requires c.if-p-eq0.false c.if-p-gt20.false in
     scalar_placed (fifth ((c.args.p + 4) % 5) (omega arith) r.0.0.0.1 r.0.0.1 r.0.1 r.1 ∙ e)

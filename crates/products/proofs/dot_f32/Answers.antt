@@ -7,7 +7,7 @@ use Rattle.products.proofs.dot_f32.Goals as goal
 pub loop-i-preserved : goal.loop-i-preserved
 loop-i-preserved c =
     let a = c.args in
-    let more = one_more (add binary32) (λ j. mul binary32 (of_bits binary32 (get_or a.t2 j 0)) (of_bits binary32 (get_or a.t3 j 0))) in
+    let more = one_more (add binary32) (λ j. mul binary32 (of_bits binary32 (get_or a.x j 0)) (of_bits binary32 (get_or a.y j 0))) in
     (search rules, more _ _ _ c.loop-i.invariant.1 c.product-sum-in-loop-i.ensures)
 
 pub returns : goal.returns

@@ -42,7 +42,7 @@ unfolding text_length
 text_length_lem d = rw (d.digit-count.ensures.0, d.before.type-len.ensures.0, d.before.before.count_at.ensures.0, d.before.before.before.scalar-at.ensures)
 
 ended : (c : Else-not-ends_at) → ends (text (?c.before.before).After-digit_count) (len (?c.before.before).After-digit_count) ≡ true
-ended c = sym c.ends_at.ensures ∙ not-false _ c.if-not-ends_at.false
+ended c = sym c.ends_at.ensures ∙ c.if-not-ends_at.false
 
 within : (c : Else-not-ends_at) → len (?c.before.before).After-digit_count ≤ length (text (?c.before.before).After-digit_count)
 within c = ends_within (text (?c.before.before).After-digit_count) (len (?c.before.before).After-digit_count) (ended c)
@@ -67,7 +67,7 @@ overflow_add-len-2 c = record { fits = omega (arith, lanes_length c) }
 pub returns-then-not-ends_at : goal.returns-then-not-ends_at
 returns-then-not-ends_at c =
     let t = c.args.t.now in
-    let e = none_ended t c.type_from-p.ensures.0 (text_length_lem (goal.at.returns-then-not-ends_at c).After-digit_count) (sym c.ends_at.ensures ∙ not-true _ c.if-not-ends_at.true) in
+    let e = none_ended t c.type_from-p.ensures.0 (text_length_lem (goal.at.returns-then-not-ends_at c).After-digit_count) (sym c.ends_at.ensures ∙ c.if-not-ends_at.true) in
     (λ h. absurd (omega arith), rw e c.clear.ensures)
 
 pub lanes_into-requires : goal.lanes_into-requires

@@ -4,13 +4,13 @@ use Rattle.rounding.proofs.Fours.{unchanged}
 use Rattle.rounding.proofs.fract.Goals as goal
 
 pub returns-in-Boolean : goal.returns-in-Boolean
-returns-in-Boolean c = rw c.in-Boolean.is (unchanged c.args.t2 (search rules))
+returns-in-Boolean c = rw c.in-Boolean.is (unchanged c.args.x (search rules))
 
 pub returns-in-I32 : goal.returns-in-I32
-returns-in-I32 c = rw c.in-I32.is (unchanged c.args.t2 (search rules))
+returns-in-I32 c = rw c.in-I32.is (unchanged c.args.x (search rules))
 
 pub returns-in-U32 : goal.returns-in-U32
-returns-in-U32 c = rw c.in-U32.is (unchanged c.args.t2 (search rules))
+returns-in-U32 c = rw c.in-U32.is (unchanged c.args.x (search rules))
 
 pub returns-in-F32 : goal.returns-in-F32
 returns-in-F32 c = rw (c.in-F32.is, c.fract_f32.ensures, c.fract_f32-in-F32.ensures, c.fract_f32-in-F32-2.ensures, c.fract_f32-in-F32-3.ensures)

@@ -14,7 +14,7 @@ nine c = rw c.choose.ensures (most (eqb c.scalar_by-p.result 5) 9)
 
 pub returns : goal.returns
 returns c =
-    let t = c.args.t1 in
+    let t = c.args.bytes in
     let e : c.choose-2.result ≡ matrix_from t = rw (c.choose-2.ensures, c.choose.ensures, c.scalar_by-p.ensures.0, c.size_by-r.ensures.0, c.size_by-c.ensures.0) in
     (e, rw e (matrix_below t _ _ _ (size_right (get_or t 3 0)).0 (size_right (get_or t 5 0)).0 (scalar_right t 7).0))
 

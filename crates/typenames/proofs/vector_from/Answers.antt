@@ -7,6 +7,6 @@ use Rattle.typenames.proofs.vector_from.Goals as goal
 
 pub returns : goal.returns
 returns c =
-    let t = c.args.t1 in
+    let t = c.args.bytes in
     let e : c.choose.result ≡ vector_from t = rw (c.choose.ensures, c.after_scalar.ensures, c.scalar_by-p.ensures.0, c.size_by-n.ensures.0) in
     (e, rw e (vector_below t _ _ (size_right (get_or t 3 0)).0 (scalar_right t 5).0))

@@ -31,4 +31,4 @@ four_each v n (a ∷ b ∷ []) l = absurd (omega arith)
 four_each v n (a ∷ b ∷ c ∷ []) l = absurd (omega arith)
 
 pub returns : goal.returns
-returns c = let len : length c.args.t2 ≡ 4 = search rules in four_each c.args.v c.args.n c.args.t2 len
+returns c = let len : length c.args.x ≡ 4 = search rules in four_each c.args.v c.args.n c.args.x len
