@@ -20,10 +20,10 @@ second_length_lem c = second_there c.args.a.now 17 c.place_at-2.ensures.0 c.seco
 
 -- where both have room the first is written
 both_within : (c : Else-out-first) → length (text_of (value_at c.args.a.now 0)) + length (second_text (value_at c.args.a.now 17)) ≤ length c.args.out.now
-both_within c = omega (arith, first_length (?c.before).After-second_len, second_length_lem (?c.before).After-second_len)
+both_within c = omega (arith, text_there c.args.a.now 0 c.place_at.ensures.0 c.text_len-first.ensures.0, second_there c.args.a.now 17 c.place_at-2.ensures.0 c.second_len.ensures.0)
 
-first_made : (c : After-put_value-next) → Made c.args.out.now 0 (text_of (value_at c.args.a.now 0)) c.put_value-next.result c.put_value-next.new.out
-first_made c = made c.args.out.now 0 (text_of (value_at c.args.a.now 0)) (omega (arith, both_within (?c.before.before).Else-out-first)) c.put_value-next.ensures
+first_made : (c : After-put_value-next) → length (text_of (value_at c.args.a.now 0)) + length (second_text (value_at c.args.a.now 17)) ≤ length c.args.out.now → Made c.args.out.now 0 (text_of (value_at c.args.a.now 0)) c.put_value-next.result c.put_value-next.new.out
+first_made c room = made c.args.out.now 0 (text_of (value_at c.args.a.now 0)) (omega arith) c.put_value-next.ensures
 
 pub returns-then-refusal-ne0 : goal.returns-then-refusal-ne0
 returns-then-refusal-ne0 c = λ x e. refused_so c.args.out.now x e.0 (λ z. omega arith)
@@ -37,9 +37,9 @@ pub put_second-len-requires : goal.put_second-len-requires
 put_second-len-requires c =
     let v = text_of (value_at c.args.a.now 0) in
     let u = second_text (value_at c.args.a.now 17) in
-    room_left c.args.out.now 0 v u (omega (arith, both_within (goal.at.put_second-len-requires c).Else-out-first, length-append v u)) (first_made (goal.at.put_second-len-requires c).After-put_value-next)
+    room_left c.args.out.now 0 v u (omega (arith, both_within (goal.at.put_second-len-requires c).Else-out-first, length-append v u)) (first_made (goal.at.put_second-len-requires c).After-put_value-next (both_within (goal.at.put_second-len-requires c).Else-out-first))
 
 pub returns : goal.returns
 returns c =
     let z = c.if-refusal-ne0.false in
-    λ x e. answered_so c.args.out.now x (sym e.0 ∙ z) (e.1 z).0 (e.1 z).1 (both_within (goal.at.returns c).Else-out-first) (first_made (goal.at.returns c).After-put_value-next) c.put_second-len.ensures
+    λ x e. answered_so c.args.out.now x (sym e.0 ∙ z) (e.1 z).0 (e.1 z).1 (both_within (goal.at.returns c).Else-out-first) (first_made (goal.at.returns c).After-put_value-next (both_within (goal.at.returns c).Else-out-first)) c.put_second-len.ensures

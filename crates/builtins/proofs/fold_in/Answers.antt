@@ -41,7 +41,7 @@ tested c = of_type (value_at c.args.w.now 3) (rw c.place_at-p.ensures.0 at c.for
 first : (c : Else-not-formed_as) → First c.args.w.now c.place_at-p.result
 first c =
     record {
-      formed = sym (tested (?c.before).After-formed_as) ∙ c.if-not-formed_as.false;
+      formed = sym (of_type (value_at c.args.w.now 3) (rw c.place_at-p.ensures.0 at c.formed_as.ensures)) ∙ c.if-not-formed_as.false;
       type = c.place_at-p.ensures.0;
       known = let h = c.if-p-eq0.false in omega arith;
       within = c.if-p-gt-LAST_VECTOR.false;
@@ -50,8 +50,8 @@ first c =
 there : (c : Else-not-formed_as) → 20 ≤ length c.args.w.now
 there c = all_there c.args.w.now 3 (first c).formed
 
-worked_out : (c : After-arm-a) → Worked c.args.reading c.args.w.now c.arm-a.result
-worked_out c = worked c.args.reading c.args.w.now (first (?c.before.before.before.before).Else-not-formed_as) c.builtin_at.ensures c.cut_at.ensures c.arm-a.ensures
+worked_out : (c : After-arm-a) → First c.args.w.now c.place_at-p.result → Worked c.args.reading c.args.w.now c.arm-a.result
+worked_out c f = worked c.args.reading c.args.w.now f c.builtin_at.ensures c.cut_at.ensures c.arm-a.ensures
 
 pub returns-then-p-eq0 : goal.returns-then-p-eq0
 returns-then-p-eq0 c =
@@ -75,11 +75,11 @@ arm-a-requires c = let h = there (goal.at.arm-a-requires c).Else-not-formed_as i
 pub returns-then-not-a : goal.returns-then-not-a
 returns-then-not-a c =
     let a = c.args in
-    let t = told_refused a.reading a.out.now a.w.now ((worked_out (goal.at.returns-then-not-a c).After-arm-a).refused c.if-not-a.true) in
+    let t = told_refused a.reading a.out.now a.w.now ((worked_out (goal.at.returns-then-not-a c).After-arm-a (first (goal.at.returns-then-not-a c).Else-not-formed_as)).refused c.if-not-a.true) in
     (c.refusal-then-not-a.ensures ∙ t.0, t.1)
 
 pub put_answer-requires : goal.put_answer-requires
-put_answer-requires c = let h = (worked_out (goal.at.put_answer-requires c).After-arm-a).places c.if-not-a.false in (h.first, h.second)
+put_answer-requires c = let h = (worked_out (goal.at.put_answer-requires c).After-arm-a (first (goal.at.put_answer-requires c).Else-not-formed_as)).places c.if-not-a.false in (h.first, h.second)
 
 pub returns : goal.returns
-returns c = let a = c.args in told_answer a.reading a.out.now a.w.now ((worked_out (goal.at.returns c).After-arm-a).answers c.if-not-a.false) refl c.put_answer.ensures
+returns c = let a = c.args in told_answer a.reading a.out.now a.w.now ((worked_out (goal.at.returns c).After-arm-a (first (goal.at.returns c).Else-not-formed_as)).answers c.if-not-a.false) refl c.put_answer.ensures

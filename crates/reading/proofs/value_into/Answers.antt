@@ -19,50 +19,49 @@ use Rattle.reading.proofs.WordPuts.{value_put, cleared_again, lanes_after}
 use Rattle.reading.proofs.value_into.Goals as goal
 use Rattle.reading.proofs.value_into.Goals.{After-digit_count, After-lanes_into, Else-not-ends_at}
 
--- what the program has in hand: the type's place, the length, the text and the lanes in it
-abbrev kind : After-digit_count → Kind
-kind d = kind_at d.before.before.before.before.type-from.result
-
+-- the length that the program works out, and the lanes in a text of it
 abbrev len : After-digit_count → ℕ
-len d = d.before.type-len.result + d.before.before.count_at.result * (d.digit-count.result + 1)
+len d = d.type_len-start.result + d.count_at-n.result * (d.digit_count.result + 1)
 
-abbrev text : After-digit_count → List ℕ
-text d = d.before.before.before.before.before.before.before.before.before.before.before.args.t.now
+abbrev kind : After-digit_count → Kind
+kind d = kind_at d.type_from-p.result
 
-abbrev lanes : After-digit_count → List ℕ
-lanes d = lanes_in (kind d) (take (len d) (text d))
+abbrev read : After-lanes_into → List ℕ
+read c = lanes_in (kind_at c.type_from-p.result) (take (c.type_len-start.result + c.count_at-n.result * (c.digit_count.result + 1)) c.args.t.now)
 
-lanes_length : (d : After-digit_count) → d.before.before.count_at.result * (d.digit-count.result + 1) ≤ 144
+lanes_length : (d : After-digit_count) → d.count_at-n.result * (d.digit_count.result + 1) ≤ 144
 lanes_length d =
-    let n : d.digit-count.result + 1 ≤ 9 = omega arith in
-    mul-le-mul d.before.before.count_at.ensures.1 n
+    let n : d.digit_count.result + 1 ≤ 9 = omega arith in
+    mul-le-mul d.count_at-n.ensures.1 n
 
 text_length_lem : (d : After-digit_count) → len d ≡ text_length (kind d)
 unfolding text_length
-text_length_lem d = rw (d.digit-count.ensures.0, d.before.type-len.ensures.0, d.before.before.count_at.ensures.0, d.before.before.before.scalar-at.ensures)
+text_length_lem d = rw (d.digit_count.ensures.0, d.type_len-start.ensures.0, d.count_at-n.ensures.0, d.scalar_at-s.ensures)
 
-ended : (c : Else-not-ends_at) → ends (text (?c.before.before).After-digit_count) (len (?c.before.before).After-digit_count) ≡ true
+ended : (c : Else-not-ends_at) → ends c.args.t.now (c.type_len-start.result + c.count_at-n.result * (c.digit_count.result + 1)) ≡ true
 ended c = sym c.ends_at.ensures ∙ c.if-not-ends_at.false
 
-within : (c : Else-not-ends_at) → len (?c.before.before).After-digit_count ≤ length (text (?c.before.before).After-digit_count)
-within c = ends_within (text (?c.before.before).After-digit_count) (len (?c.before.before).After-digit_count) (ended c)
+within : (c : Else-not-ends_at) → c.type_len-start.result + c.count_at-n.result * (c.digit_count.result + 1) ≤ length c.args.t.now
+within c = ends_within c.args.t.now _ (ended c)
 
 -- the memory with the lanes
 lanes_put : (c : After-lanes_into)
     → let a = c.args in
-    (c.lanes_into.result ≡ length (lanes (?d).After-digit_count)) × (c.lanes_into.new.w ≡ put (put a.w.now a.at (words_of empty_value)) (a.at + 1) (lanes (?d).After-digit_count)) × (length (lanes (?d).After-digit_count) ≤ 16)
+    (c.lanes_into.result ≡ length (read c)) × (c.lanes_into.new.w ≡ put (put a.w.now a.at (words_of empty_value)) (a.at + 1) (read c)) × (length (read c) ≤ 16)
 lanes_put c =
-    let e = lanes_parts (text (?d).After-digit_count) (len (?d).After-digit_count) (kind (?d).After-digit_count) c.scalar_at-s.ensures c.count_at-n.ensures.0 c.type_len-start.ensures.0 in (
+    let k = kind_at c.type_from-p.result in
+    let n = c.type_len-start.result + c.count_at-n.result * (c.digit_count.result + 1) in
+    let e = lanes_parts c.args.t.now n k c.scalar_at-s.ensures c.count_at-n.ensures.0 c.type_len-start.ensures.0 in (
       c.lanes_into.ensures.0 ∙ ap length e,
-      lanes_after _ _ (lanes (?d).After-digit_count) c.clear.ensures c.lanes_into.ensures.1 e,
-      (lanes_most (kind (?d).After-digit_count) (take (len (?d).After-digit_count) (text (?d).After-digit_count))).1,
+      lanes_after _ _ (read c) c.clear.ensures c.lanes_into.ensures.1 e,
+      (lanes_most k (take n c.args.t.now)).1,
     )
 
 pub overflow_mul-len : goal.overflow_mul-len
-overflow_mul-len c = record { fits = omega (arith, lanes_length c) }
+overflow_mul-len c = record { fits = omega (arith, lanes_length (goal.at.overflow_mul-len c).After-digit_count) }
 
 pub overflow_add-len-2 : goal.overflow_add-len-2
-overflow_add-len-2 c = record { fits = omega (arith, lanes_length c) }
+overflow_add-len-2 c = record { fits = omega (arith, lanes_length (goal.at.overflow_add-len-2 c).After-digit_count) }
 
 pub returns-then-not-ends_at : goal.returns-then-not-ends_at
 returns-then-not-ends_at c =

@@ -19,12 +19,12 @@ some c = omega arith
 -- the text, by its parts
 abbrev lanes : After-count_at → List ℕ
 lanes c =
-    let a = c.before.before.before.before.before.before.before.before.before.before.before.args in
-    lanes_text 58 c.before.before.digit-count.result (take c.count_at.result (take (a.from + 17 - (a.from + 1)) (drop (a.from + 1) a.w.now)))
+    let a = c.args in
+    lanes_text 58 c.digit_count-digits.result (take c.count_at.result (take (a.from + 17 - (a.from + 1)) (drop (a.from + 1) a.w.now)))
 
-text : (c : After-count_at) → let a = c.args in text_of (value_at a.w.now a.from) ≡ spelled (kind_at a.p) ++ lanes c
-text c =
-    text_words c.args.w.now c.args.from c.requires.0 (some (?c.before.before.before.before.before.before.before.before).Else-p-eq0) c.count_at.ensures.0 c.scalar_at.ensures c.digit_count-digits.ensures.0
+text : (c : After-count_at) → 0 < c.args.p → let a = c.args in text_of (value_at a.w.now a.from) ≡ spelled (kind_at a.p) ++ lanes c
+text c some =
+    text_words c.args.w.now c.args.from c.requires.0 some c.count_at.ensures.0 c.scalar_at.ensures c.digit_count-digits.ensures.0
 
 pub returns-then-p-eq0 : goal.returns-then-p-eq0
 returns-then-p-eq0 c =
@@ -40,7 +40,7 @@ pub put_lanes-requires : goal.put_lanes-requires
 put_lanes-requires c =
     let a = c.args in
     let there = words_there a.w.now a.from (rw c.requires.0 at (some (goal.at.put_lanes-requires c).Else-p-eq0)) in (
-      room_left a.out.now a.at (spelled (kind_at a.p)) (lanes (goal.at.put_lanes-requires c).After-count_at) (rw (text (goal.at.put_lanes-requires c).After-count_at) at c.requires.3) c.put_type-next.ensures,
+      room_left a.out.now a.at (spelled (kind_at a.p)) (lanes (goal.at.put_lanes-requires c).After-count_at) (rw (text (goal.at.put_lanes-requires c).After-count_at (some (goal.at.put_lanes-requires c).Else-p-eq0)) at c.requires.3) c.put_type-next.ensures,
       omega (arith, part_length a.w.now a.from there, c.count_at.ensures.1),
       omega (arith, c.digit_count-digits.ensures.1),
     )
@@ -48,5 +48,5 @@ put_lanes-requires c =
 pub returns : goal.returns
 returns c =
     let a = c.args in
-    let t = text (goal.at.returns c).After-count_at in
+    let t = text (goal.at.returns c).After-count_at (some (goal.at.returns c).Else-p-eq0) in
     rw t (both_made a.out.now a.at (spelled (kind_at a.p)) _ (rw t at c.requires.3) c.put_type-next.ensures c.put_lanes.ensures)
