@@ -113,6 +113,7 @@ pub fn builtin_at(n: u64) -> Builtin
 }
 
 // A builtin's number.
+#[tactic(auto, unfolding(crate::specs::Table::builtin_at))]
 pub fn number_of(b: Builtin) -> u64
     ensures { (builtin_at result ≡ b) × (result < 41) }
 {

@@ -60,6 +60,7 @@ const U32: u64 = 0x8;
 
 // ---- the table
 
+#[tactic(auto, unfolding(places::specs::Program::set_of))]
 pub fn entry_of(b: Builtin) -> Entry
     ensures { result ≡ entry_of b }
 {
