@@ -13,11 +13,11 @@ use Rattle.fields.proofs.field.Goals.{After-find-n}
 tail : (line : List ℕ) (at : ℕ) → take (length line - at) (drop at line) ≡ drop at line
 tail line at = take_all (length line - at) (drop at line) (omega (arith, length-drop at line))
 
-found : (c : After-find-n invariant-loop decreases-loop) → c.find.result ≡ tab_at (drop c.before.before.before.loop.at c.before.before.before.before.before.args.line.now)
-found c = c.find.ensures.0 ∙ ap (place_of 9) (tail c.before.before.before.before.before.args.line.now c.before.before.before.loop.at)
+found : (c : After-find-n) → c.find-n.result ≡ tab_at (drop c.loop-left.at c.args.line.now)
+found c = c.find-n.ensures.0 ∙ ap (place_of 9) (tail c.args.line.now c.loop-left.at)
 
-found_within : (c : After-find-n invariant-loop decreases-loop) → c.find.result ≤ length (drop c.before.before.before.loop.at c.before.before.before.before.before.args.line.now)
-found_within c = rw (tail c.before.before.before.before.before.args.line.now c.before.before.before.loop.at) at c.find.ensures.1
+found_within : (c : After-find-n) → c.find-n.result ≤ length (drop c.loop-left.at c.args.line.now)
+found_within c = rw (tail c.args.line.now c.loop-left.at) at c.find-n.ensures.1
 
 pub returns-then-n-line : goal.returns-then-n-line
 returns-then-n-line c =

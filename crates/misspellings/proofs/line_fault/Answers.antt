@@ -9,8 +9,8 @@ use Rattle.misspellings.proofs.Arguments.{rest_fault, all_arguments, no_more, wr
 use Rattle.misspellings.proofs.line_fault.Goals as goal
 use Rattle.misspellings.proofs.line_fault.Goals.{After-field_fault-m}
 
-most_place : (c : After-field_fault-m invariant-loop decreases-loop) → c.field-fault.result.place ≤ 156
-most_place c = rw c.field-fault.ensures (fault_most c.before.before.before.before.before.loop.typed _)
+most_place : (c : After-field_fault-m) → c.field_fault-m.result.place ≤ 156
+most_place c = rw c.field_fault-m.ensures (fault_most c.loop-tab.typed _)
 
 pub loop-tab-init : goal.loop-tab-init
 loop-tab-init c =

@@ -12,4 +12,4 @@ pub slice_bounds-same-count : goal.slice_bounds-same-count
 slice_bounds-same-count c = omega (arith, rises c.args.i c.requires, c.start_of-end.ensures, c.start_of-start.ensures, ap start (add-one c.args.i))
 
 pub returns : goal.returns
-returns c = let i = c.before.before.before.before.before.before.args.i in c.same.ensures ∙ ap (λ (l : List ℕ). same_bytes l c.before.before.before.before.before.before.args.s.now) (rw (c.start-of2.ensures, c.start_of_lem.ensures, ap start (add-one i)) (sym (cut i c.before.before.before.before.before.before.requires)))
+returns c = let i = c.args.i in c.same.ensures ∙ ap (λ (l : List ℕ). same_bytes l c.args.s.now) (rw (c.start_of-end.ensures, c.start_of-start.ensures, ap start (add-one i)) (sym (cut i c.requires)))

@@ -8,14 +8,12 @@ use Rattle.records.proofs.fold_words.Goals as goal
 
 pub loss_in-requires : goal.loss_in-requires
 loss_in-requires c =
-    let start = c.before.before.before.before.before.before.before.before.before.before.before.before.before.before.before.before in
-    let w = c.put-call.new.0 in
-    (omega (arith, ap length start.requires.1, c.out.given), loss_few start.args.reading w (rw start.requires.1 at c.fold-in.ensures.1))
+    let w = c.put_call.new.w in
+    (omega (arith, ap length c.requires.1, c.out-1.given), loss_few c.args.reading w (rw c.requires.1 at c.fold_in-refusal.ensures.1))
 
 pub returns : goal.returns
 returns c =
-    let start = c.before.before.before.before.before.before.before.before.before.before.before.before.before.before.before.before.before in
-    let f = c.fold-in in
-    let call = c.put-call in
-    answer_read start.args.reading call.new.0 (rw start.requires.1 at f.ensures.1) (rw start.requires.1 at f.ensures.0) c.value-at.ensures c.value-at2.ensures c.loss_in.ensures
-    ∙ ap (fold_in start.args.reading) call.ensures
+    let f = c.fold_in-refusal in
+    let call = c.put_call in
+    answer_read c.args.reading call.new.w (rw c.requires.1 at f.ensures.1) (rw c.requires.1 at f.ensures.0) c.value_at.ensures c.value_at-2.ensures c.loss_in.ensures
+    ∙ ap (fold_in c.args.reading) call.ensures
