@@ -28,3 +28,6 @@ returns c =
     let s = c.args.s.now in
     let e = c.fault_of.ensures ∙ ap told_of (by_type s c.type_from-p.ensures.0 c.type_len-c.ensures.0 (sym c.byte_at.ensures ∙ c.if-byte_at-ne58.false)) in
     (ap (λ r. r.fault) e, ap (λ r. r.place) e)
+
+pub slice_bounds-fault_of-start : goal.slice_bounds-fault_of-start
+slice_bounds-fault_of-start c = omega (arith, within c)

@@ -91,3 +91,6 @@ returns c =
     let f = lanes_put (goal.at.returns c).After-lanes_into in
     let e = is_found c.args.t.now c.type_from-p.ensures.0 (text_length_lem (goal.at.returns c).After-digit_count) (ended (goal.at.returns c).Else-not-ends_at) (rw (← f.0, ← c.count_at-n.ensures.0) c.if-lanes_into-n.false) in
     (e.0, rw (e.1, f.1) (value_put c.args.w.now c.args.at _ c.requires.0 f.2 c.type_from-p.ensures.1))
+
+pub slice_bounds-lanes_into-end : goal.slice_bounds-lanes_into-end
+slice_bounds-lanes_into-end c = omega (arith, within (goal.at.slice_bounds-lanes_into-end c).Else-not-ends_at)

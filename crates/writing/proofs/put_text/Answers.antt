@@ -50,3 +50,6 @@ returns c =
     let a = c.args in
     let t = text (goal.at.returns c).After-count_at (some (goal.at.returns c).Else-p-eq0) in
     rw t (both_made a.out.now a.at (spelled (kind_at a.p)) _ (rw t at c.requires.3) c.put_type-next.ensures c.put_lanes.ensures)
+
+pub slice_bounds-put_lanes-end : goal.slice_bounds-put_lanes-end
+slice_bounds-put_lanes-end c = omega (arith, words_there c.args.w.now c.args.from (rw c.requires.0 at (some (goal.at.slice_bounds-put_lanes-end c).Else-p-eq0)))

@@ -22,3 +22,9 @@ returns-then-j-k c = rw (lt-ltb _ _ c.if-j-k.true)
 
 pub returns-else-j-k : goal.returns-else-j-k
 returns-else-j-k c = rw (le-ltb _ _ c.if-j-k.false)
+
+pub bounds-m-j : goal.bounds-m-j
+bounds-m-j c = let a = c.args in omega (arith, in_column a.n a.j a.k c.requires.0 c.if-j-k.true c.requires.2)
+
+pub bounds-m-j-then-j-k : goal.bounds-m-j-then-j-k
+bounds-m-j-then-j-k c = let a = c.args in omega (arith, in_row a.n a.j c.requires.0 c.requires.1)

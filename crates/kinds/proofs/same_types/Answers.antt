@@ -1,0 +1,7 @@
+-- Its parts are those of the definition. Assumes nothing.
+use Rattle.kinds.specs.Kinds.{same_types}
+use Rattle.kinds.proofs.same_types.Goals as goal
+
+pub returns : goal.returns
+unfolding same_types
+returns c = cc
