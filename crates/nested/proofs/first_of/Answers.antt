@@ -1,0 +1,12 @@
+-- By the first's refusal. Assumes nothing.
+use borrow.Author.Tests.{eq-eqb, ne_eqb}
+use Rattle.nested.specs.Nested.{first_of}
+use Rattle.nested.proofs.first_of.Goals as goal
+
+pub returns-then-m-eq0 : goal.returns-then-m-eq0
+unfolding first_of
+returns-then-m-eq0 c = rw (eq-eqb _ _ c.if-m-eq0.true)
+
+pub returns-else-m-eq0 : goal.returns-else-m-eq0
+unfolding first_of
+returns-else-m-eq0 c = rw (ne_eqb _ _ c.if-m-eq0.false)
