@@ -8,7 +8,7 @@ use Rattle.listings.specs.Listing.{all_answers}
 use Rattle.listings.proofs.judge_listing.Given as goal
 
 abbrev pub invariant-loop-at : goal.invariant-loop-at
-invariant-loop-at l =     (l.at ≤ length l.listing) × (l.count ≤ l.at) × (l.good && all_answers (lines (drop l.at l.listing)) ≡ all_answers (lines l.listing))
+invariant-loop-at l = (l.at ≤ length l.listing) × (l.count ≤ l.at) × (l.good && all_answers (lines (drop l.at l.listing)) ≡ all_answers (lines l.listing))
     × (l.count + length (lines (drop l.at l.listing)) ≡ length (lines l.listing))
 
 abbrev pub decreases-loop-at : goal.decreases-loop-at
