@@ -1,5 +1,5 @@
 -- Each lane function gives a lane of its scalar: an integer is cut to 32 bits or chosen among those given, a float is the pattern of a number that fits its format, a count is at most 32. Assumes nothing.
-use Prim.Native.Nat.{ℕ, zero, suc, ◌-◌, ◌*◌, ◌^◌, ◌<◌}
+use Prim.Native.Nat.{ℕ, zero, suc, ◌+◌, ◌-◌, ◌*◌, ◌^◌, ◌<◌}
 use mathlib.Core.Bool.{Bool, true, false, cond}
 use mathlib.Core.Path.{◌≡◌, refl}
 use native.Mathlib.Nat.{mod-lt}
@@ -112,7 +112,7 @@ sums P plus p h g zero = h zero
 sums P plus p h g (suc n) = g (summed plus p n) (p (suc n))
 
 dot_word_lem : (a b : ℕ → ℕ) (n : ℕ) → dot_word a b n < 2 ^ 32
-dot_word_lem a b n = sums (λ (x : ℕ). x < 2 ^ 32) _ _ (λ i. mod-lt _ (lit< tt)) (λ x y. mod-lt _ (lit< tt)) n
+dot_word_lem a b n = sums (λ (x : ℕ). x < 2 ^ 32) _ _ (λ i. mod-lt (a i * b i) (lit< tt)) (λ x y. mod-lt (x + y) (lit< tt)) n
 
 pub dot_below : (s : Scalar) (a b : ℕ → ℕ) (n : ℕ) → dot_lane s a b n < bound s
 dot_below Boolean a b n = lit< tt
