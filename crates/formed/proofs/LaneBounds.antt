@@ -118,5 +118,5 @@ pub dot_below : (s : Scalar) (a b : ℕ → ℕ) (n : ℕ) → dot_lane s a b n 
 dot_below Boolean a b n = lit< tt
 dot_below I32 a b n = dot_word_lem a b n
 dot_below U32 a b n = dot_word_lem a b n
-dot_below F32 a b n = to_bits-lt binary32 _ (sums (λ (x : Float). T (fits binary32 x)) _ _ (λ i. mul-fits binary32 _ _) (λ x y. add-fits binary32 x y) n)
+dot_below F32 a b n = to_bits-lt binary32 _ (sums (λ (x : Float). T (fits binary32 x)) _ _ (λ i. mul-fits binary32 (of_bits binary32 (a i)) (of_bits binary32 (b i))) (λ x y. add-fits binary32 x y) n)
 dot_below F16 a b n = lit< tt
