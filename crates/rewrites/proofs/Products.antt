@@ -51,13 +51,13 @@ pub dot_commutes : (s : Scalar) (a b : ℕ → ℕ) (n : ℕ) → dot_lane s a b
 dot_commutes s a b n = go s
   where
     words : dot_lane U32 a b n ≡ dot_lane U32 b a n
-    words = same_terms _ _ _ (λ i. ap (λ (x : ℕ). x % 2 ^ 32) (mul_comm (a i) (b i))) n
+    words = same_terms (λ x y. (x + y) % 2 ^ 32) (λ i. a i * b i % 2 ^ 32) (λ i. b i * a i % 2 ^ 32) (λ i. ap (λ (x : ℕ). x % 2 ^ 32) (mul_comm (a i) (b i))) n
 
     go : (s : Scalar) → dot_lane s a b n ≡ dot_lane s b a n
     go Boolean = refl
     go I32 = words
     go U32 = words
-    go F32 = ap (to_bits binary32) (same_terms (add binary32) _ _ (λ i. product_comm binary32 (of_bits binary32 (a i)) (of_bits binary32 (b i))) n)
+    go F32 = ap (to_bits binary32) (same_terms (add binary32) (λ i. mul binary32 (of_bits binary32 (a i)) (of_bits binary32 (b i))) (λ i. mul binary32 (of_bits binary32 (b i)) (of_bits binary32 (a i))) (λ i. product_comm binary32 (of_bits binary32 (a i)) (of_bits binary32 (b i))) n)
     go F16 = refl
 
 -- ---- differences
