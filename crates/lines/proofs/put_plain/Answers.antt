@@ -29,7 +29,7 @@ overflow_add-count-4 c = omega (arith, c.well_formed, (taken_apart c).tabs, coun
 
 pub put_head-requires : goal.put_head-requires
 put_head-requires c =
-    omega (arith, c.read_field-n3.auto.0, c.read_field-n2.auto.0, c.read_field-n1.auto.0, c.requires.0)
+    omega (arith, c.read_field-n3.auto.w, c.read_field-n2.auto.w, c.read_field-n1.auto.w, c.requires.0)
 
 pub returns : goal.returns
 unfolding plain_call kind_at
