@@ -10,7 +10,6 @@ use lib.ListN.{length, take, drop, get_or, length-append, length-drop}
 use borrow.Author.Tests.{eq-eqb, ne_eqb}
 use Rattle.readings.specs.declared.Reading.{Reading}
 use Rattle.nesting.specs.declared.Head.{Head}
-use Rattle.nesting.specs.declared.Head.TheVariants as Head
 use Rattle.nesting.specs.Grammar.{is_bitcast, Tree, Trees, call, last, next, text, texts, is_call, depth}
 use Rattle.nesting.specs.Read.{a_call, tree_of, trees_of, line_tree, whole_call, refusal_by, refusal_of}
 use Rattle.nesting.specs.Program.{head_at, read_as}

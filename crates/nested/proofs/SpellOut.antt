@@ -10,7 +10,7 @@ use lib.ListN.{length, length-append}
 use Rattle.readings.specs.declared.Reading.{Reading}
 use Rattle.values.specs.declared.Kind.TheVariants.{Empty}
 use Rattle.values.specs.Value.{empty_value}
-use Rattle.builtins.specs.Fold.{refused, fold_in}
+use Rattle.builtins.specs.Fold.{fold_in}
 use Rattle.spelling.specs.Read.{found}
 use Rattle.spelling.specs.Write.{text_of}
 use Rattle.spelling.proofs.ReadsBack.{read_back}

@@ -13,7 +13,6 @@ use Rattle.buffers.specs.Text.{same_bytes}
 use Rattle.calls.specs.declared.Builtin.TheVariants.{Bitcast}
 use Rattle.names.specs.Names.{name_of}
 use Rattle.nesting.specs.declared.Head.{Head}
-use Rattle.nesting.specs.declared.Head.TheVariants as Head
 use Rattle.nesting.specs.Grammar.{letter_or_digit, is_name, is_bitcast, Tree, spelling}
 use Rattle.nesting.specs.Read.{first_word, opens, a_spelling, a_call, tree_of, trees_of}
 use Rattle.nesting.specs.Program.{word_end, spelt, head_by, head_at}

@@ -10,7 +10,6 @@ use lib.Dec.{eqb}
 use lib.ListN.{length, drop, get_or, length-append}
 use lib.Seq.{drop-drop, get_or-drop}
 use Rattle.nesting.specs.declared.Head.{Head}
-use Rattle.nesting.specs.declared.Head.TheVariants as Head
 use Rattle.nesting.specs.Grammar.{is_bitcast, Tree, Trees, spelling, call, last, next, text, texts}
 use Rattle.nesting.specs.Read.{a_call, and_next, arguments_by, tree_of, trees_of}
 use Rattle.nesting.specs.Program.{head_at, read_as}

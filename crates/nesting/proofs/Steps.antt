@@ -9,7 +9,6 @@ use lib.Dec.{leb, eqb}
 use lib.ListN.{length, drop, get_or, length-append}
 use borrow.Author.Tests.{eq-eqb, ne_eqb}
 use Rattle.nesting.specs.declared.Head.{Head}
-use Rattle.nesting.specs.declared.Head.TheVariants as Head
 use Rattle.nesting.specs.declared.Step.{Step}
 use Rattle.nesting.specs.declared.Step.TheVariants.{Read, Wrong}
 use Rattle.nesting.specs.Grammar.{Tree, Trees, spelling, call, last, next, text, texts, depth, depths}

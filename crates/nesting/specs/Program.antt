@@ -3,7 +3,6 @@ use Rattle.std.specs.Prelude.{ℕ, ◌+◌, max, Bool, false, cond, List, [], �
 use Rattle.std.proofs.Math.Option.{Option, none, some}
 use Rattle.buffers.specs.Text.{byte}
 use Rattle.nesting.specs.declared.Head.{Head}
-use Rattle.nesting.specs.declared.Head.TheVariants as Head
 use Rattle.nesting.specs.declared.Step.{Step}
 use Rattle.nesting.specs.declared.Step.TheVariants.{Read, Wrong}
 use Rattle.nesting.specs.Grammar.{is_bitcast, text, texts, depth, depths}
