@@ -1,1 +1,2 @@
 // Brighter never packs darker, of calls: statements over what the packers give in both readings, and their proofs; no code.
+#![tactic(auto)]
