@@ -48,6 +48,12 @@ module _ {R : Reading} {n : ℕ} {b : List ℕ} {h : Held} where
   turn_end (goes f) end e = end (step_last R n b h ∙ e)
   turn_end (gets f g) end e = absurd (not_both (sym (reads_open R n b h f).0 ∙ e))
 
+  -- the turn after which all is done reads nothing
+  turn_stops : {next : List ℕ} {r : Held} (t : Turn R n b h next r) → r.done ≡ true → (turn_read t ≡ []) × Loop R n b h (turn_read t) (text_of R n b h)
+  unfolding turn_read
+  turn_stops (goes f) d = (refl, stops b h d)
+  turn_stops (gets f g) d = absurd (not_both (sym (ap (λ (q : Held). q.done) g.state) ∙ d))
+
 turns_loop : {R : Reading} {n : ℕ} {b : List ℕ} {h : Held} {k : ℕ} {next : List ℕ} {r : Held} (t : Turns R n b h k next r) {rest out : List ℕ} → (r.last ≡ true → rest ≡ [])
     → Loop R n next r rest out → Loop R n b h (all_read t ++ rest) (all_text t ++ out)
 unfolding all_read all_text
@@ -55,10 +61,9 @@ turns_loop begins end l = l
 turns_loop (follows t u) end l = simp append_assoc (turns_loop t (turn_end u end) (turn_loop u end l))
 
 pub all_loop : {R : Reading} {n : ℕ} {b : List ℕ} {h : Held} {k : ℕ} {next : List ℕ} {r : Held} (t : Turns R n b h k next r) → h.done ≡ false → r.done ≡ true → Loop R n b h (all_read t) (all_text t)
-unfolding all_read all_text turn_read
+unfolding all_read all_text
 all_loop begins e f = absurd (not_both (sym e ∙ f))
-all_loop (follows {mid = mid} {m = m} t (goes g)) e f = turns_loop t (λ z. refl) (stops mid m f)
-all_loop (follows t (gets g l)) e f = absurd (not_both (sym (ap (λ (q : Held). q.done) l.state) ∙ f))
+all_loop (follows t u) e f = turns_loop t (λ z. (turn_stops u f).0) (turn_stops u f).1
 
 -- from before anything is read until all is done, the texts are what is printed for all that was read
 pub turns_print : {R : Reading} {n : ℕ} {b : List ℕ} {k : ℕ} {next : List ℕ} {r : Held} → 0 < n → (t : Turns R n b start_of k next r) → r.done ≡ true
