@@ -13,7 +13,7 @@ pub returns-then-x-y : goal.returns-then-x-y
 returns-then-x-y c =
     let r = c.args in
     let l = c.loop-i in
-    sym (same_false _ _ (λ e. c.if-x-y.true (c.normal_lane-x.ensures ∙ lane_same (normal_lane r.nans r.s) r.n r.t4 r.t5 e l.i (omega arith) ∙ sym c.normal_lane-y.ensures)))
+    sym (same_false _ _ (λ e. c.if-x-y.true (c.normal_lane-x.ensures ∙ lane_same (normal_lane r.nans r.s) r.n r.a r.b e l.i (omega arith) ∙ sym c.normal_lane-y.ensures)))
 
 pub loop-i-preserved : goal.loop-i-preserved
 loop-i-preserved c = (search rules, below_more _ _ c.loop-i.invariant.1 (cc))
@@ -22,5 +22,5 @@ pub returns : goal.returns
 returns c =
     let r = c.args in
     let i : c.loop-i.i ≡ r.n = omega arith in
-    let e = lanes_same (normal_lane r.nans r.s) r.n r.t4 r.t5 (search rules) (search rules) (rw i at c.loop-i.invariant.1) in
+    let e = lanes_same (normal_lane r.nans r.s) r.n r.a r.b (search rules) (search rules) (rw i at c.loop-i.invariant.1) in
     rw e (sym (same_itself _))
