@@ -1,7 +1,7 @@
 -- The part of the listing on the place's side, which lies within it. Assumes nothing.
 use native.Mathlib.Omega.{arith}
 use Rattle.diffs.specs.declared.Side.TheVariants.{Left, Right}
-use Rattle.diffs.proofs.FirstLine.{end_fits, none_found, part_found}
+use Rattle.diffs.proofs.FirstLine.{end_fits, end_within, none_found, part_found}
 use Rattle.diffs.proofs.first_difference.Goals as goal
 
 pub overflow_add-end : goal.overflow_add-end
@@ -23,3 +23,13 @@ pub returns-in-Right : goal.returns-in-Right
 returns-in-Right c =
     let a = c.args in
     part_found a.left.now a.right.now c.first_place-p.ensures Right c.in-Right.is
+
+pub slice_bounds-result-end-in-Left : goal.slice_bounds-result-end-in-Left
+slice_bounds-result-end-in-Left c =
+    let a = c.args in
+    end_within a.left.now a.right.now c.first_place-p.ensures Left c.in-Left.is
+
+pub slice_bounds-result-end-in-Right : goal.slice_bounds-result-end-in-Right
+slice_bounds-result-end-in-Right c =
+    let a = c.args in
+    end_within a.left.now a.right.now c.first_place-p.ensures Right c.in-Right.is
