@@ -2,9 +2,11 @@
 #![tactic(auto)]
 
 use readings::Reading;
+use std::io;
+use stream::SPACE;
 
-fn main() {
-    let mut buf = io::large_buffer();
-    let mut out = io::large_buffer();
-    pumping::pump(Reading::Text, &mut buf, &mut out);
+fn main(rt: HostRuntime) -> io::Result<()> {
+    let mut buf = [0; SPACE];
+    let mut out = [0; SPACE];
+    pumping::pump(Reading::Text, &mut rt.stdin(), &mut rt.stdout(), &mut buf, &mut out)
 }

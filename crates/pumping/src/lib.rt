@@ -1,33 +1,41 @@
-// Prints the answer of each line of the standard input, in the reading that the program chooses.
+// Prints the answer of each line that a reader brings, in the reading that the program chooses.
 #![tactic(auto)]
 
-ghost use Rattle.std.specs.Prelude.{◌-◌, ◌≤◌, ◌<◌, cond, ◌≡◌, length};
+ghost use Rattle.std.specs.Prelude.{◌-◌, ◌≤◌, ◌<◌, cond, ◌≡◌, length, IfOk, OnErr};
 ghost use Rattle.buffers.specs.Memory.{put};
 ghost use Rattle.stream.specs.Stream.{step_lines, text_of};
 ghost use Rattle.inputs.specs.Turns.{Turn, Pumped};
 
-use libc::STDOUT_FILENO;
 use readings::Reading;
+use std::io;
+use std::io::{Read, Write};
 use stream::{Held, Space};
 
-// Writes the first `used` bytes to the standard output.
-fn print(out: &[u8], used: usize)
+// Writes the first `used` bytes.
+fn print<W: Write>(output: &mut W, out: &[u8], used: usize) -> io::Result<()>
     requires { used ≤ length out.now }
 {
-    io::write_all(STDOUT_FILENO, &out[0..used]);
+    output.write_all(&out[0..used])
 }
 
 // A step, its answers written, and more read where it asks for that.
-fn turn(reading: Reading, buf: &mut Space, out: &mut Space, h: Held) -> Held
-    ensures { Turn reading step_lines buf.old h buf.new result
-        × (out.new ≡ put out.old 0 (text_of reading step_lines buf.old h)) }
+fn turn<R: Read, W: Write>(
+    reading: Reading,
+    input: &mut R,
+    output: &mut W,
+    buf: &mut Space,
+    out: &mut Space,
+    h: Held,
+) -> io::Result<Held>
+    ensures ok { IfOk result (λ r. Turn reading step_lines buf.old h buf.new r) }
+    ensures text { out.new ≡ put out.old 0 (text_of reading step_lines buf.old h) }
 {
     let r = stream::step(reading, buf, out, h);
-    print(out, r.used);
+    print(output, out, r.used)?;
     if r.reads {
-        return refilling::refill(buf, r);
+        return refilling::refill(input, buf, r);
     }
-    r
+    Ok(r)
 }
 
 fn turns_left(done: bool, turns: u64) -> u64
@@ -38,13 +46,20 @@ fn turns_left(done: bool, turns: u64) -> u64
 }
 
 // Turn after turn until all is done.
-pub fn pump(reading: Reading, buf: &mut Space, out: &mut Space)
-    ensures { Pumped reading buf.old buf.new }
+pub fn pump<R: Read, W: Write>(
+    reading: Reading,
+    input: &mut R,
+    output: &mut W,
+    buf: &mut Space,
+    out: &mut Space,
+) -> io::Result<()>
+    ensures ok { OnOk result (Pumped reading buf.old buf.new) }
 {
     let mut h = stream::start();
     let mut turns = u64::MAX;
     while turns > 0 {
-        h = turn(reading, buf, out, h);
+        h = turn(reading, input, output, buf, out, h)?;
         turns = turns_left(h.done, turns);
     }
+    Ok(())
 }

@@ -1,12 +1,15 @@
-// Reads of the standard input behind what a buffer holds.
+// Reads behind what a buffer holds.
 #![tactic(auto)]
 
-ghost use Rattle.std.specs.Prelude.{◌+◌, ◌^◌, ◌≤◌, ◌<◌, ◌≡◌, length, take};
+ghost use Rattle.std.specs.Prelude.{◌+◌, ◌^◌, ◌≤◌, ◌<◌, ◌≡◌, length, take, drop, IfOk, OnErr};
+ghost use Rattle.std.specs.Io.{ReadsAtMost};
+ghost use Rattle.std.specs.Io.KnownBytes.{ReadConsumes, Consumes, Keeps, IsAtEnd};
 ghost use Rattle.stream.specs.Stream.{space};
 ghost use Rattle.inputs.specs.Runs.{read_of};
 ghost use Rattle.inputs.specs.Turns.{Filled};
 
-use libc::STDIN_FILENO;
+use std::io;
+use std::io::Read;
 use stream::{Held, Space};
 
 // What is held after n bytes were read behind it.
@@ -25,21 +28,23 @@ fn got(h: Held, n: usize) -> Held
     }
 }
 
-// Reads behind the first `have` bytes, which stay; answers how many came.
-fn read_behind(buf: &mut [u8], have: usize) -> usize
+// One read behind the first `have` bytes, which stay; answers how many came.
+fn read_behind<R: Read>(input: &mut R, buf: &mut [u8], have: usize) -> io::Result<usize>
     requires { have ≤ length buf.old }
-    ensures { (have + result ≤ length buf.old) × (length buf.new ≡ length buf.old)
-        × (take have buf.new ≡ take have buf.old) }
+    ensures fits { IfOk result (λ n. have + n ≤ length buf.old) }
+    ensures same_length { length buf.new ≡ length buf.old }
+    ensures stays { take have buf.new ≡ take have buf.old }
+    ensures bytes { ReadConsumes (R.remaining input.old) (R.remaining input.new) result (drop have buf.new) }
 {
-    let answer = libc::read(STDIN_FILENO, &mut buf[have..]);
-    io::count(answer, &buf[have..])
+    input.read(&mut buf[have..])
 }
 
-// Reads behind what is held. There is room, so that reading nothing means the end of the input.
-pub fn refill(buf: &mut Space, h: Held) -> Held
+// One read behind what is held. There is room, so that reading nothing means the end of the input. What is held stays where the read fails, too.
+pub fn refill<R: Read>(input: &mut R, buf: &mut Space, h: Held) -> io::Result<Held>
     requires { (h.at ≤ h.have) × (h.have < space) }
-    ensures { Filled buf.old h buf.new result }
+    ensures ok { IfOk result (λ r. Filled buf.old h buf.new r) }
+    ensures err { OnErr result (take h.have buf.new ≡ take h.have buf.old) }
 {
-    let n = read_behind(buf, h.have);
-    got(h, n)
+    let n = read_behind(input, buf, h.have)?;
+    Ok(got(h, n))
 }
