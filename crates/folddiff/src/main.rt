@@ -1,85 +1,106 @@
 // Prints how the listings left.txt and right.txt of the folder that it is run in differ.
 #![tactic(auto)]
 
-ghost use Rattle.std.specs.Prelude.{◌≤◌, length};
+ghost use Rattle.std.specs.Prelude.{◌≤◌, length, IfOk};
 
-use libc::STDOUT_FILENO;
-use stream::Space;
+use std::fs::File;
+use std::io;
+use std::io::Write;
+use stream::{SPACE, Space};
 
 // What was read of a file; not `good` where it could not be.
 #[derive(Clone, Copy)]
-struct File {
+struct Content {
     good: bool,
     len: usize,
 }
 
-// Names a file that cannot be opened or read on standard error.
-fn failed(name: &[u8]) -> File
+// What the system says of an error, without its number.
+fn words(text: &str) -> &str {
+    match text.split_once(" (os error ") {
+        Some((said, _)) => said,
+        None => text,
+    }
+}
+
+// Names a file and what the system says of it on standard error.
+fn tell(rt: &HostRuntime, name: &str, error: io::Error) -> io::Result<()> {
+    let text = format!(in rt.alloc(); "{error}")?;
+    let said = words(&text);
+    eprintln!(rt; "{name}: {said}")
+}
+
+// Names a file that cannot be opened or read on standard error. Where that fails too, there is nobody left to tell.
+fn failed(rt: &HostRuntime, name: &str, error: io::Error) -> Content
     ensures { result.len ≤ 0 }
 {
-    os::fail(name);
-    File {
+    let _ = tell(rt, name, error).is_ok();
+    Content {
         good: false,
         len: 0,
     }
 }
 
-// Reads a file, as much of it as the lent memory has room for. A read that fails brings nothing, as the end of the file does, and is asked
-// again to tell the two apart.
-fn read_file(name: &[u8], buf: &mut [u8]) -> File
+// Reads a file, as much of it as the lent memory has room for.
+fn read(rt: &HostRuntime, name: &str, buf: &mut [u8]) -> io::Result<usize>
+    ensures { IfOk result (λ n. n ≤ length buf.new) }
+{
+    let mut file = File::open(rt, name)?;
+    refilling::fill(&mut file, buf)
+}
+
+// The same, with a failure told.
+fn read_file(rt: &HostRuntime, name: &str, buf: &mut [u8]) -> Content
     ensures { result.len ≤ length buf.new }
 {
-    let fd = os::open_read(name);
-    if fd < 0 {
-        return failed(name);
-    }
-    let len = io::read_full(fd, buf);
-    let more = libc::read(fd, &mut buf[len..]);
-    if more < 0 {
-        return failed(name);
-    }
-    libc::close(fd);
-    File {
-        good: true,
-        len: len,
+    match read(rt, name, buf) {
+        Ok(len) => Content { good: true, len },
+        Err(error) => failed(rt, name, error),
     }
 }
 
-fn print(out: &[u8], used: usize)
+fn print<W: Write>(output: &mut W, out: &[u8], used: usize) -> io::Result<()>
     requires { used ≤ length out.now }
 {
-    io::write_all(STDOUT_FILENO, &out[0..used]);
+    output.write_all(&out[0..used])
 }
 
 // Part after part, until none is left.
-fn print_parts(refusal: u8, kinds: &[u8], out: &mut Space) {
+fn print_parts<W: Write>(
+    output: &mut W,
+    refusal: u8,
+    kinds: &[u8],
+    out: &mut Space,
+) -> io::Result<()> {
     let mut done: usize = 0;
     let mut more = true;
     while more {
         let p = telling::diff_part(refusal, kinds, done, out);
-        print(out, p.used);
+        print(output, out, p.used)?;
         more = p.done < kinds.len();
         done = p.done;
     }
+    Ok(())
 }
 
 // How two listings differ. No listing has more lines than 32,768 bytes.
-fn differ(left: &[u8], right: &[u8], out: &mut Space) {
+fn differ<W: Write>(output: &mut W, left: &[u8], right: &[u8], out: &mut Space) -> io::Result<()> {
     let mut kinds = [0; 32768];
     let c = diffs::compare_listings(left, right, &mut kinds);
     let count = c.count;
-    print_parts(c.refusal, &kinds[0..count], out);
+    print_parts(output, c.refusal, &kinds[0..count], out)
 }
 
-fn main() {
-    let mut left = io::large_buffer();
-    let mut right = io::large_buffer();
-    let mut out = io::large_buffer();
-    let l = read_file(b"left.txt", &mut left);
-    let r = read_file(b"right.txt", &mut right);
+fn main(rt: HostRuntime) -> io::Result<()> {
+    let mut left = [0; SPACE];
+    let mut right = [0; SPACE];
+    let mut out = [0; SPACE];
+    let l = read_file(&rt, "left.txt", &mut left);
+    let r = read_file(&rt, "right.txt", &mut right);
     let m = l.len;
     let n = r.len;
     if l.good & r.good {
-        differ(&left[0..m], &right[0..n], &mut out);
+        return differ(&mut rt.stdout(), &left[0..m], &right[0..n], &mut out);
     }
+    Ok(())
 }

@@ -4,20 +4,21 @@
 ghost use Rattle.std.specs.Prelude.{◌≤◌};
 ghost use Rattle.stream.specs.Stream.{space};
 
-use libc::{STDIN_FILENO, STDOUT_FILENO};
-use stream::Space;
+use std::io;
+use std::io::Write;
+use stream::{SPACE, Space};
 
-fn print(out: &Space, used: usize)
+fn print<W: Write>(output: &mut W, out: &Space, used: usize) -> io::Result<()>
     requires { used ≤ space }
 {
     let all = &out[..];
-    io::write_all(STDOUT_FILENO, &all[0..used]);
+    output.write_all(&all[0..used])
 }
 
-fn main() {
-    let mut listing = io::large_buffer();
-    let mut out = io::large_buffer();
-    let n = io::read_full(STDIN_FILENO, &mut listing);
+fn main(rt: HostRuntime) -> io::Result<()> {
+    let mut listing = [0; SPACE];
+    let mut out = [0; SPACE];
+    let n = refilling::fill(&mut rt.stdin(), &mut listing)?;
     let used = sorting::print_sorted(&listing[0..n], &mut out);
-    print(&out, used);
+    print(&mut rt.stdout(), &out, used)
 }

@@ -27,7 +27,7 @@ pub got_more : (R : Reading) (n : ℕ) (b : List ℕ) (h : Held) {mid : List ℕ
 got_more R n b h e f g l = gets (ap (λ (q : Held). q.reads) (sym f) ∙ g) (rw (e, f) at l)
 
 -- k bytes that were read behind what is held, which are there however they came
-pub filled : {b : List ℕ} {h : Held} {next : List ℕ} {r : Held} (k : ℕ) → h.at ≤ h.have → h.have < length b → h.have + k ≤ length b
+unfoldable pub filled : {b : List ℕ} {h : Held} {next : List ℕ} {r : Held} (k : ℕ) → h.at ≤ h.have → h.have < length b → h.have + k ≤ length b
     → length next ≡ length b → take h.have next ≡ take h.have b → r ≡ read_of h k → Filled b h next r
 filled {b} {h} {next} k at room fits same keeps e =
     let more = take k (drop h.have next) in
