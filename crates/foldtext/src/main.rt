@@ -8,5 +8,11 @@ use stream::SPACE;
 fn main(rt: HostRuntime) -> io::Result<()> {
     let mut buf = [0; SPACE];
     let mut out = [0; SPACE];
-    pumping::pump(Reading::Text, &mut rt.stdin(), &mut rt.stdout(), &mut buf, &mut out)
+    pumping::pump(
+        Reading::Text,
+        &mut rt.stdin(),
+        &mut rt.stdout(),
+        &mut buf,
+        &mut out,
+    )
 }
