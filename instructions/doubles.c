@@ -1,4 +1,5 @@
-/* A function for each kind of instruction that instructions/run looks for, and one that it must leave alone. */
+/* A function for each kind of instruction that instructions/run looks for, one whose move of 64 bits it counts apart, and one
+   that it must leave alone. */
 
 double ldexp(double, int);
 
@@ -30,6 +31,11 @@ long double x87(long double a)
 double called(double a)
 {
     return ldexp(a, 3);
+}
+
+double moved(const double *a)
+{
+    return *a;
 }
 
 float single(float a, float b)

@@ -1,6 +1,6 @@
-/* Chanrelout: WGSL constant folding, proved. Link libchanrelout.a, which `rt staticlib chanrelout` writes to
-   target/staticlib. It allocates nothing, keeps no state, may be called from several threads at once, and needs of the
-   C library only memcpy and memset.
+/* Chanrelout: WGSL constant folding, proved. Link libchanrelout.a, which `rt lib` in crates/chanrelout writes
+   to its out/. It allocates nothing, keeps no state, may be called from several threads at once, and needs of the C
+   library only memcpy and memset.
 
    Every call ends, whatever its arguments hold. The library reads only the slices that it is lent, and writes only
    where a function below says so. A pointer of a slice of length 0 is not followed, but must not be null. */
