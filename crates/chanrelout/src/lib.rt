@@ -1,4 +1,4 @@
-// What a C or Rust program links: `rt staticlib chanrelout` writes target/staticlib/libchanrelout.a. Numbers pass as themselves, a slice as a
+// What a C or Rust program links: `rt lib` in this folder writes out/libchanrelout.a. Numbers pass as themselves, a slice as a
 // pointer and a length. bindings/ has the C header and the Rust crate.
 #![tactic(auto)]
 
