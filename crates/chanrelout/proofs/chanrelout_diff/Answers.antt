@@ -5,6 +5,4 @@ use Rattle.diffs.proofs.AllParts.{count_few}
 use Rattle.chanrelout.proofs.chanrelout_diff.Goals as goal
 
 pub diff_number-requires : goal.diff_number-requires
-diff_number-requires c =
-    let a = c.args in
-    omega (arith, count_few (length a.kinds.now) a.left.now a.right.now c.compare_listings-c.ensures.0)
+diff_number-requires c = omega (arith, count_few (length c.args.kinds.now) _ _ c.compare_listings-c.ensures.0)

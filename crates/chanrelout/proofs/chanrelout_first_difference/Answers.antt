@@ -5,5 +5,5 @@ use Rattle.chanrelout.proofs.chanrelout_first_difference.Goals as goal
 
 pub place_number-requires : goal.place_number-requires
 place_number-requires c =
-    let h = place_few c.args.left.now c.args.right.now c.first_place-p.ensures in
+    let h = place_few _ _ c.first_place-p.ensures in
     (omega (arith, h), omega (arith, h))
