@@ -5,6 +5,8 @@ ghost use Rattle.std.specs.Prelude.{◌≡◌, cond, ◌+◌, ◌≤◌, ◌<◌
 ghost use Rattle.buffers.specs.Text.{same_bytes, place_of};
 ghost use Rattle.buffers.specs.Memory.{put, fits};
 
+use choosing::choose;
+
 // ---- bytes
 
 // Whether four bytes from i on are the same in both. The tests are joined without branches, so that those of eight are one.
@@ -62,12 +64,6 @@ fn none_of_eight(s: &[u8], i: usize, b: u8) -> bool
     ensures { result ≡ leb 8 (place_of b (drop i s.now)) }
 {
     none_of_four(s, i, b) & none_of_four(s, i + 4, b)
-}
-
-fn choose(on: bool, a: usize, b: usize) -> usize
-    ensures { result ≡ cond on a b }
-{
-    if on { a } else { b }
 }
 
 // Where b stands first, of the four bytes from i on, or `rest` where they do not have it, chosen without branches too.

@@ -5,6 +5,8 @@ ghost use Rattle.std.specs.Prelude.{◌≡◌, cond, ◌+◌, ◌-◌, ◌<◌, 
 ghost use Rattle.buffers.specs.Memory.{put};
 ghost use Rattle.cutting.specs.Cutting.{first_line, held_of};
 
+use choosing::choose;
+
 // A longer line is refused.
 pub const MOST_BYTES: usize = 400;
 
@@ -16,12 +18,6 @@ pub struct FirstLine {
     pub due: bool,
     pub size: usize,
     pub skip: bool,
-}
-
-fn choose(on: bool, a: usize, b: usize) -> usize
-    ensures { result ≡ cond on a b }
-{
-    if on { a } else { b }
 }
 
 // Past the newline, where there is one.

@@ -6,6 +6,7 @@ ghost use Rattle.buffers.specs.Memory.{put};
 ghost use Rattle.diffs.specs.Diffs.{both_refusal, compared_in, kinds_in, first_difference};
 ghost use Rattle.diffs.specs.Places.{difference_at, kinds_from, place_at, nowhere, same_at, told_place, place_from, first_place};
 
+use choosing::choose;
 use kinds::Difference;
 use listings::Judged;
 
@@ -32,12 +33,6 @@ pub struct Place {
 }
 
 // ---- refusals
-
-fn choose(on: bool, a: u8, b: u8) -> u8
-    ensures { result ≡ cond on a b }
-{
-    if on { a } else { b }
-}
 
 fn greatest(a: usize, b: usize) -> usize
     ensures { result ≡ max a b }

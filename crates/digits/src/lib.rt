@@ -7,7 +7,7 @@ ghost use Rattle.buffers.specs.Memory.{put};
 ghost use Rattle.spelling.specs.Hex.{digit_count, digit_bound, digit_of, digits_below, number, DigitTable};
 ghost use Rattle.digits.specs.Program.{lane_from, lane_after, lanes_from};
 
-use places::choose;
+use choosing::choose;
 use values::Scalar;
 
 // A number that no lane is.

@@ -9,7 +9,8 @@ ghost use Rattle.values.specs.Program.{four, four2};
 ghost use Rattle.exponent.specs.Exponent.{fraction, exponent, fraction_lane, exponent_lane, integer, ldexp_lane};
 ghost use Rattle.exponent.specs.Leads.{Leads};
 
-use half::{choose, power};
+use choosing::choose;
+use half::power;
 use values::Scalar;
 
 #[derive(Clone, Copy)]

@@ -6,11 +6,7 @@ ghost use Rattle.std.specs.Float.Ieee.Nearest.{closest};
 ghost use Rattle.half.specs.Format.{f16, f32};
 ghost use Rattle.half.specs.Convert.{converted_magnitude, half_of, single_of};
 
-pub fn choose(on: bool, a: u32, b: u32) -> u32
-    ensures { result ≡ cond on a b }
-{
-    if on { a } else { b }
-}
+use choosing::choose;
 
 pub fn power(n: u32) -> u32
     requires { n < 32 }

@@ -4,12 +4,7 @@ ghost use Rattle.calls.specs.Refuse.{first_of};
 ghost use Rattle.calls.specs.Program.{judged_in};
 
 use calls::table::Shape;
-
-fn choose(on: bool, a: u8, b: u8) -> u8
-    ensures { result ≡ cond on a b }
-{
-    if on { a } else { b }
-}
+use choosing::choose;
 
 fn first_of(counted: bool, formed: bool, alone: bool, together: bool, sized: bool) -> u8
     ensures { result ≡ first_of true counted formed alone together sized }

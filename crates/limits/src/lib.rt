@@ -8,7 +8,8 @@ ghost use Rattle.values.specs.Program.{four, four2, four3};
 ghost use Rattle.limits.specs.Limits.{above, max_lane, min_lane, clamp_lane, saturate_lane, step_lane};
 ghost use Rattle.limits.specs.Program.{below_of, other_float, other_of};
 
-use half::{choose, single_of};
+use choosing::choose;
+use half::single_of;
 use values::Scalar;
 
 // How far an i32 lies above the least.

@@ -8,6 +8,7 @@ ghost use Rattle.spelling.specs.Read.{read_value};
 ghost use Rattle.listings.specs.Answers.{no_answer, refused_line, values_line, decimal_digit, is_number, is_pair, faultless, lone_line, pair_line, says_refused, of_fields, read_answer};
 ghost use Rattle.listings.specs.Listing.{line_at, next_at, judged_listing};
 
+use choosing::choose;
 use spelling::Fault;
 use values::{Kind, Scalar, Value};
 
@@ -238,12 +239,6 @@ fn is_answer(line: &[u8]) -> bool
 {
     let a = read_answer(line);
     a.ok
-}
-
-fn choose(on: bool, a: u8, b: u8) -> u8
-    ensures { result ≡ cond on a b }
-{
-    if on { a } else { b }
 }
 
 // A listing's refusal and its count of lines.

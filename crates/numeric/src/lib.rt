@@ -6,7 +6,7 @@ ghost use Rattle.half.specs.Format.{f16, f32};
 ghost use Rattle.values.specs.Program.{four};
 ghost use Rattle.numeric.specs.Numeric.{abs_lane, sign_float, sign_lane, leading_lane, ones_lane, trailing_lane};
 
-use half::choose;
+use choosing::choose;
 use values::Scalar;
 
 // ---- abs

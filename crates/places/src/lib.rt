@@ -7,6 +7,7 @@ ghost use Rattle.values.specs.declared.Scalar.TheVariants.{Boolean, I32};
 ghost use Rattle.values.specs.Value.{lane_bits, scalar_of, lane_count, shaped, place, kind_at};
 ghost use Rattle.places.specs.Program.{member};
 
+use choosing::choose;
 use values::Scalar;
 
 // Whether the type is in a set, which has a bit for each place.
@@ -43,12 +44,6 @@ pub fn count_at(p: u64) -> usize
     let columns = (p - 21) % 9 / 3 + 2;
     let rows = (p - 21) % 3 + 2;
     (columns * rows) as usize
-}
-
-pub fn choose(on: bool, a: u64, b: u64) -> u64
-    ensures { result ≡ cond on a b }
-{
-    if on { a } else { b }
 }
 
 // The types of bool lanes, with no type among them, and those of f16 lanes.

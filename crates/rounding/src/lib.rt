@@ -9,7 +9,8 @@ ghost use Rattle.rounding.specs.Rounding.{whole, fract};
 ghost use Rattle.rounding.specs.Lanes.{whole_lane, fract_lane};
 ghost use Rattle.rounding.specs.Program.{Sized, outward, is_away, is_round, lift, MadeWhole};
 
-use half::{choose, power};
+use choosing::choose;
+use half::power;
 use values::Scalar;
 
 #[derive(Clone, Copy)]

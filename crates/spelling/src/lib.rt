@@ -6,6 +6,7 @@ ghost use Rattle.values.specs.Value.{kind_at};
 ghost use Rattle.spelling.specs.Types.{spelled};
 ghost use Rattle.spelling.specs.Hex.{digit_count, digit_of, DigitTable};
 
+use choosing::choose;
 use values::{Scalar, Value};
 
 // What is wrong with a spelling: nothing, the type or the colon, the count of lanes, a digit.
@@ -23,12 +24,6 @@ pub struct Reading {
     pub fault: Fault,
     pub place: usize,
     pub value: Value,
-}
-
-fn choose(on: bool, a: usize, b: usize) -> usize
-    ensures { result ≡ cond on a b }
-{
-    if on { a } else { b }
 }
 
 // How many bytes spell the type at p.

@@ -6,7 +6,7 @@ ghost use Rattle.values.specs.Value.{place};
 ghost use Rattle.spelling.specs.Types.{kind_of};
 ghost use Rattle.typenames.specs.Program.{first_bytes, scalar_by, scalar_width, size_by, vector_from, matrix_from, type_from};
 
-use places::choose;
+use choosing::choose;
 
 // The byte at i, 0 past the end.
 pub fn byte_at(t: &[u8], i: usize) -> u8

@@ -7,17 +7,13 @@ ghost use Rattle.buffers.specs.Text.{bytes};
 ghost use Rattle.buffers.specs.Memory.{put};
 ghost use Rattle.spelling.specs.Types.{scalar_text, spelled};
 
+use choosing::choose;
+
 fn put_byte(out: &mut [u8], at: usize, b: u8)
     requires { at < length out.old }
     ensures { out.new ≡ put out.old at (b ∷ []) }
 {
     out[at] = b;
-}
-
-fn choose(on: bool, a: u8, b: u8) -> u8
-    ensures { result ≡ cond on a b }
-{
-    if on { a } else { b }
 }
 
 fn put_three(out: &mut [u8], at: usize, x: u8, y: u8, z: u8)
