@@ -26,7 +26,7 @@ fn leading(p: u32, m: u32) -> Digits
 {
     let hidden = power(p);
     if m < hidden {
-        let l = u32::leading_zeros(m);
+        let l = m.leading_zeros();
         Digits {
             first: m << (l + p - 31),
             count: 32 - l,
@@ -67,54 +67,45 @@ fn frexp(e: u32, p: u32, x: u32) -> Split
     let lowest = power(e - 1) + p - 2;
     Split {
         fraction: choose(top <= x, top, 0) + magnitude,
-        exponent: std::num::wrapping_sub_u32(d.count, lowest),
+        exponent: d.count.wrapping_sub(lowest),
+    }
+}
+
+fn split_lane(s: Scalar, x: u32) -> Split
+    ensures { (result.fraction ≡ fraction_lane s x) × (result.exponent ≡ exponent_lane s x) }
+{
+    match s {
+        Scalar::Boolean | Scalar::I32 | Scalar::U32 => Split {
+            fraction: x,
+            exponent: 0,
+        },
+        Scalar::F32 => frexp(8, 23, x),
+        Scalar::F16 => frexp(5, 10, x),
     }
 }
 
 pub fn fraction_lane(s: Scalar, x: u32) -> u32
     ensures { result ≡ fraction_lane s x }
 {
-    match s {
-        Scalar::Boolean => x,
-        Scalar::I32 => x,
-        Scalar::U32 => x,
-        Scalar::F32 => frexp(8, 23, x).fraction,
-        Scalar::F16 => frexp(5, 10, x).fraction,
-    }
+    split_lane(s, x).fraction
 }
 
 pub fn exponent_lane(s: Scalar, x: u32) -> u32
     ensures { result ≡ exponent_lane s x }
 {
-    match s {
-        Scalar::Boolean => 0,
-        Scalar::I32 => 0,
-        Scalar::U32 => 0,
-        Scalar::F32 => frexp(8, 23, x).exponent,
-        Scalar::F16 => frexp(5, 10, x).exponent,
-    }
+    split_lane(s, x).exponent
 }
 
 pub fn fraction(s: Scalar, x: [u32; 4]) -> [u32; 4]
     ensures { result ≡ four (fraction_lane s) x }
 {
-    [
-        fraction_lane(s, x[0]),
-        fraction_lane(s, x[1]),
-        fraction_lane(s, x[2]),
-        fraction_lane(s, x[3]),
-    ]
+    x.map(|lane| fraction_lane(s, lane))
 }
 
 pub fn exponent(s: Scalar, x: [u32; 4]) -> [u32; 4]
     ensures { result ≡ four (exponent_lane s) x }
 {
-    [
-        exponent_lane(s, x[0]),
-        exponent_lane(s, x[1]),
-        exponent_lane(s, x[2]),
-        exponent_lane(s, x[3]),
-    ]
+    x.map(|lane| exponent_lane(s, lane))
 }
 
 // ---- ldexp
@@ -170,10 +161,5 @@ pub fn ldexp_lane(x: u32, n: u32) -> u32
 pub fn ldexp(x: [u32; 4], n: [u32; 4]) -> [u32; 4]
     ensures { result ≡ four2 ldexp_lane x n }
 {
-    [
-        ldexp_lane(x[0], n[0]),
-        ldexp_lane(x[1], n[1]),
-        ldexp_lane(x[2], n[2]),
-        ldexp_lane(x[3], n[3]),
-    ]
+    std::array::from_fn(|i| ldexp_lane(x[i], n[i]))
 }

@@ -17,12 +17,7 @@ fn select_lane(f: u32, t: u32, c: u32) -> u32
 pub fn select_four(f: [u32; 4], t: [u32; 4], c: [u32; 4]) -> [u32; 4]
     ensures { result ≡ four3 select_lane f t c }
 {
-    [
-        select_lane(f[0], t[0], c[0]),
-        select_lane(f[1], t[1], c[1]),
-        select_lane(f[2], t[2], c[2]),
-        select_lane(f[3], t[3], c[3]),
-    ]
+    std::array::from_fn(|i| select_lane(f[i], t[i], c[i]))
 }
 
 // ---- bitcast: a lane of 32 bits is two of 16, the low half first
@@ -54,9 +49,9 @@ fn paired(x: [u32; 4]) -> [u32; 4]
 pub fn recast(from: bool, to: bool, x: [u32; 4]) -> [u32; 4]
     ensures { result ≡ recast from to x }
 {
-    if from {
-        if to { x } else { paired(x) }
-    } else {
-        if to { halved(x) } else { x }
+    match (from, to) {
+        (true, false) => paired(x),
+        (false, true) => halved(x),
+        (true, true) | (false, false) => x,
     }
 }

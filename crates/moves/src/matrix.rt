@@ -35,10 +35,11 @@ fn column(w: &[u64], at: usize) -> [u64; 4]
     requires { at + 4 ≤ length w.now }
     ensures { result ≡ column w.now at }
 {
-    [w[at], w[at + 1], w[at + 2], w[at + 3]]
+    std::array::from_fn(|i| w[at + i])
 }
 
 // The columns of a matrix of n rows whose lanes stand from the fourth word on. Of a column only the first n lanes are its own.
+// Four are written out, here and in `turned`: the proof of a closure knows no bound of its argument that a call in it requires.
 fn columns(w: &[u64], n: usize) -> [[u64; 4]; 4]
     requires { (n ≤ 4) × (20 ≤ length w.now) }
     ensures { result ≡ columns n w.now }
@@ -55,7 +56,7 @@ fn row(m: [[u64; 4]; 4], r: usize) -> [u64; 4]
     requires { r < 4 }
     ensures { result ≡ row m r }
 {
-    [m[0][r], m[1][r], m[2][r], m[3][r]]
+    std::array::from_fn(|c| m[c][r])
 }
 
 fn turned(m: [[u64; 4]; 4]) -> [[u64; 4]; 4]
@@ -81,21 +82,16 @@ pub fn put_transposed(w: &[u64], p: u64, out: &mut [u64])
     let m = turned(columns(w, rows_at(p)));
     let count = places::count_at(p);
     out[0] = turned_at(p);
-    let mut j = 0;
-    while j < 16 {
+    for j in 0..16 {
         out[1 + j] = lane_at(m, n, count, j);
-        j += 1;
     }
 }
 
 // The words s, at the start of the lent memory.
+#[tactic(auto, unfolding(buffers::specs::Memory::put))]
 pub fn put_copy(s: &[u64], out: &mut [u64])
     requires { length s.now ≤ length out.old }
     ensures { out.new ≡ put out.old 0 s.now }
 {
-    let mut i = 0;
-    while i < s.len() {
-        out[i] = s[i];
-        i += 1;
-    }
+    out[..s.len()].copy_from_slice(s);
 }

@@ -2,7 +2,6 @@
 #![tactic(auto)]
 
 ghost use Rattle.std.specs.Prelude.{◌≡◌, cond, ◌+◌, ◌%◌, ◌^◌, ◌<◌, leb, ltb, eqb};
-ghost use Rattle.half.specs.Format.{f16, f32};
 ghost use Rattle.values.specs.Program.{four};
 ghost use Rattle.numeric.specs.Numeric.{abs_lane, sign_float, sign_lane, leading_lane, ones_lane, trailing_lane};
 
@@ -25,9 +24,8 @@ pub fn abs_lane(s: Scalar, x: u32) -> u32
     ensures { result ≡ abs_lane s x }
 {
     match s {
-        Scalar::Boolean => x,
+        Scalar::Boolean | Scalar::U32 => x,
         Scalar::I32 => abs_i32(x),
-        Scalar::U32 => x,
         Scalar::F32 => x % 0x8000_0000,
         Scalar::F16 => x % 0x8000,
     }
@@ -36,12 +34,7 @@ pub fn abs_lane(s: Scalar, x: u32) -> u32
 pub fn abs(s: Scalar, x: [u32; 4]) -> [u32; 4]
     ensures { result ≡ four (abs_lane s) x }
 {
-    [
-        abs_lane(s, x[0]),
-        abs_lane(s, x[1]),
-        abs_lane(s, x[2]),
-        abs_lane(s, x[3]),
-    ]
+    x.map(|lane| abs_lane(s, lane))
 }
 
 // ---- sign
@@ -55,7 +48,7 @@ fn sign_i32(x: u32) -> u32
 fn sign_u32(x: u32) -> u32
     ensures { result ≡ sign_lane Scalar.U32 x }
 {
-    if x == 0 { 0 } else { 1 }
+    x.min(1)
 }
 
 // Floats go by the weight of the sign and the patterns of infinity, NaN and 1. A zero is returned as it came.
@@ -71,18 +64,6 @@ fn sign_float(x: u32, top: u32, infinity: u32, nan: u32, one: u32) -> u32
     )
 }
 
-fn sign_f32(x: u32) -> u32
-    ensures { result ≡ sign_float f32 x }
-{
-    sign_float(x, 0x8000_0000, 0x7f80_0000, 0x7fc0_0000, 0x3f80_0000)
-}
-
-fn sign_f16(x: u32) -> u32
-    ensures { result ≡ sign_float f16 x }
-{
-    sign_float(x, 0x8000, 0x7c00, 0x7e00, 0x3c00)
-}
-
 pub fn sign_lane(s: Scalar, x: u32) -> u32
     ensures { result ≡ sign_lane s x }
 {
@@ -90,20 +71,15 @@ pub fn sign_lane(s: Scalar, x: u32) -> u32
         Scalar::Boolean => x,
         Scalar::I32 => sign_i32(x),
         Scalar::U32 => sign_u32(x),
-        Scalar::F32 => sign_f32(x),
-        Scalar::F16 => sign_f16(x),
+        Scalar::F32 => sign_float(x, 0x8000_0000, 0x7f80_0000, 0x7fc0_0000, 0x3f80_0000),
+        Scalar::F16 => sign_float(x, 0x8000, 0x7c00, 0x7e00, 0x3c00),
     }
 }
 
 pub fn sign(s: Scalar, x: [u32; 4]) -> [u32; 4]
     ensures { result ≡ four (sign_lane s) x }
 {
-    [
-        sign_lane(s, x[0]),
-        sign_lane(s, x[1]),
-        sign_lane(s, x[2]),
-        sign_lane(s, x[3]),
-    ]
+    x.map(|lane| sign_lane(s, lane))
 }
 
 // ---- counts
@@ -111,50 +87,35 @@ pub fn sign(s: Scalar, x: [u32; 4]) -> [u32; 4]
 pub fn leading_lane(x: u32) -> u32
     ensures { result ≡ leading_lane x }
 {
-    u32::leading_zeros(x)
+    x.leading_zeros()
 }
 
 pub fn ones_lane(x: u32) -> u32
     ensures { result ≡ ones_lane x }
 {
-    u32::count_ones(x)
+    x.count_ones()
 }
 
 pub fn trailing_lane(x: u32) -> u32
     ensures { result ≡ trailing_lane x }
 {
-    u32::trailing_zeros(x)
+    x.trailing_zeros()
 }
 
 pub fn count_leading_zeros(x: [u32; 4]) -> [u32; 4]
     ensures { result ≡ four leading_lane x }
 {
-    [
-        leading_lane(x[0]),
-        leading_lane(x[1]),
-        leading_lane(x[2]),
-        leading_lane(x[3]),
-    ]
+    x.map(leading_lane)
 }
 
 pub fn count_one_bits(x: [u32; 4]) -> [u32; 4]
     ensures { result ≡ four ones_lane x }
 {
-    [
-        ones_lane(x[0]),
-        ones_lane(x[1]),
-        ones_lane(x[2]),
-        ones_lane(x[3]),
-    ]
+    x.map(ones_lane)
 }
 
 pub fn count_trailing_zeros(x: [u32; 4]) -> [u32; 4]
     ensures { result ≡ four trailing_lane x }
 {
-    [
-        trailing_lane(x[0]),
-        trailing_lane(x[1]),
-        trailing_lane(x[2]),
-        trailing_lane(x[3]),
-    ]
+    x.map(trailing_lane)
 }

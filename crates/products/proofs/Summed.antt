@@ -1,6 +1,6 @@
--- A sum from the first term up: one more term, and that it looks at no term past the last. So dot of two vectors looks at no lane past the last,
+-- A sum from the first term up looks at no term past the last. So dot of two vectors looks at no lane past the last,
 -- and the four lanes that the program works on serve for the values'. Assumes nothing.
-use Rattle.std.proofs.Common.{◌≡◌, ℕ, zero, suc, ◌+◌, ◌-◌, ◌*◌, ◌%◌, ◌^◌, ◌≤◌, min, true, get_or, refl, ap, mod-eq_of_lt, add-one, arith}
+use Rattle.std.proofs.Common.{◌≡◌, ℕ, zero, suc, ◌+◌, ◌-◌, ◌*◌, ◌%◌, ◌^◌, ◌≤◌, min, true, get_or, refl, ap, mod-eq_of_lt, arith}
 use native.Mathlib.Nat.{min-eq_left}
 use lib.Ieee.{binary32, to_bits, of_bits, add, mul}
 use Rattle.values.specs.declared.Scalar.{Scalar}
@@ -13,9 +13,6 @@ use Rattle.values.proofs.Lanes.{few}
 use Rattle.products.specs.Products.{summed, dot_lane}
 
 module _ {A : Type 0} (plus : A → A → A) where
-  pub one_more : (p : ℕ → A) (i : ℕ) (x y : A) → x ≡ summed plus p i → y ≡ p (i + 1) → plus x y ≡ summed plus p (i + 1)
-  one_more p i x y e f = rw (e, f, add-one i)
-
   same_terms : (p q : ℕ → A) (n : ℕ) → ((i : ℕ) → i ≤ n → p i ≡ q i) → summed plus p n ≡ summed plus q n
   same_terms p q zero e = e 0 (omega arith)
   same_terms p q (suc n) e = rw (same_terms p q n (λ i h. e i (omega arith)), e (suc n) (omega arith))

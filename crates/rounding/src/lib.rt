@@ -31,8 +31,7 @@ fn outward(way: Way) -> u32
     match way {
         Way::Floor => 1,
         Way::Ceil => 0,
-        Way::Trunc => 2,
-        Way::Round => 2,
+        Way::Trunc | Way::Round => 2,
     }
 }
 
@@ -46,12 +45,7 @@ fn is_away(way: Way, negative: bool) -> bool
 fn is_round(way: Way) -> bool
     ensures { result ≡ is_round way }
 {
-    match way {
-        Way::Floor => false,
-        Way::Ceil => false,
-        Way::Trunc => false,
-        Way::Round => true,
-    }
+    matches!(way, Way::Round)
 }
 
 // What is added so that just a rest of n + r / c that goes up reaches c.
@@ -66,13 +60,6 @@ fn lift(nearest: bool, away: bool, n: u32, c: u32) -> u32
     )
 }
 
-// How far a stands beyond b: 0 where it does not.
-fn beyond(a: u32, b: u32) -> u32
-    ensures { result ≡ a - b }
-{
-    choose(b < a, a, b) - b
-}
-
 // From 1 up `past` digits stand before the point beside the leading one, and where none stands behind it nothing is cut off. Else the rest is, and a carry goes
 // into the exponent's field. Odd from even is told by the last digit before the point; where that is the leading one, which is not stored, by the field of 1,
 // which is odd.
@@ -82,8 +69,8 @@ fn from_one(nearest: bool, away: bool, e: u32, p: u32, m: u32) -> u32
 {
     let hidden = power(p);
     let one = power(e + p - 1) - hidden;
-    let past = beyond(m, one) / hidden;
-    let point = power(beyond(p, past));
+    let past = m.saturating_sub(one) / hidden;
+    let point = power(p.saturating_sub(past));
     let lifted = m + lift(nearest, away, m / point, point);
     lifted - lifted % point
 }
@@ -125,21 +112,9 @@ pub fn whole(way: Way, s: Scalar, x: [u32; 4]) -> [u32; 4]
     ensures { result ≡ four (whole_lane way s) x }
 {
     match s {
-        Scalar::Boolean => x,
-        Scalar::I32 => x,
-        Scalar::U32 => x,
-        Scalar::F32 => [
-            whole_in(way, 8, 23, x[0]),
-            whole_in(way, 8, 23, x[1]),
-            whole_in(way, 8, 23, x[2]),
-            whole_in(way, 8, 23, x[3]),
-        ],
-        Scalar::F16 => [
-            whole_in(way, 5, 10, x[0]),
-            whole_in(way, 5, 10, x[1]),
-            whole_in(way, 5, 10, x[2]),
-            whole_in(way, 5, 10, x[3]),
-        ],
+        Scalar::Boolean | Scalar::I32 | Scalar::U32 => x,
+        Scalar::F32 => x.map(|lane| whole_in(way, 8, 23, lane)),
+        Scalar::F16 => x.map(|lane| whole_in(way, 5, 10, lane)),
     }
 }
 
@@ -164,20 +139,8 @@ pub fn fract(s: Scalar, x: [u32; 4]) -> [u32; 4]
     ensures { result ≡ four (fract_lane s) x }
 {
     match s {
-        Scalar::Boolean => x,
-        Scalar::I32 => x,
-        Scalar::U32 => x,
-        Scalar::F32 => [
-            fract_f32(x[0]),
-            fract_f32(x[1]),
-            fract_f32(x[2]),
-            fract_f32(x[3]),
-        ],
-        Scalar::F16 => [
-            fract_f16(x[0]),
-            fract_f16(x[1]),
-            fract_f16(x[2]),
-            fract_f16(x[3]),
-        ],
+        Scalar::Boolean | Scalar::I32 | Scalar::U32 => x,
+        Scalar::F32 => x.map(fract_f32),
+        Scalar::F16 => x.map(fract_f16),
     }
 }

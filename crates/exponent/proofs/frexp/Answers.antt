@@ -1,5 +1,5 @@
 -- `exponent::frexp` meets its contract: its numbers are the format's, so that each branch is a case of the definition. Assumes nothing.
-use Rattle.std.proofs.Common.{◌≡◌, ℕ, suc, ◌+◌, ◌-◌, ◌*◌, ◌/◌, ◌%◌, ◌^◌, ◌<◌, ◌≤◌, Bool, true, false, cond, ◌||◌, eqb, ltb, leb, sym, ap, ◌∙◌, le_trans, le_of_eq, le_refl, mul-le-mul_right, mod-lt, add-mul, one-mul, arith, pow_pos, pow_mono, pow-add, rules}
+use Rattle.std.proofs.Common.{◌≡◌, ℕ, suc, ◌+◌, ◌-◌, ◌*◌, ◌/◌, ◌%◌, ◌^◌, ◌<◌, ◌≤◌, Bool, true, false, cond, ◌||◌, eqb, ltb, leb, sym, ap, ◌∙◌, le_trans, le_of_eq, le_refl, mul-le-mul_right, mod-lt, add-mul, one-mul, arith, pow_pos, pow_mono, pow-add}
 use native.Mathlib.Nat.{two-pow-succ}
 use Rattle.half.specs.Format.{hidden, top, infinity, magnitude, lowest}
 use Rattle.half.specs.Program.{format}
@@ -65,11 +65,11 @@ module _ (e p x h t j : ℕ) (w : Powers e p h t j) where
         start : (t h y : ℕ) → t ≡ 2 * (3 * h + y) → t / 2 - 3 * h ≡ y
         start t h y i = omega arith
 
-    power : (n r : ℕ) → n ≡ 2 ^ (e - 1) → r < 2 ^ 32 → s < 2 ^ 32 → (r + (n + p - 2)) % 2 ^ 32 ≡ s → r ≡ exponent (format e p) x
-    power n r i k a g = wraps r s (lowest (format e p)) k a (omega (arith, w.few, w.weight)) (ap (λ (b : ℕ). (r + b) % 2 ^ 32) (ap (λ (y : ℕ). y + p - 2) (sym i)) ∙ g) ∙ sym (exponent_is (format e p) x (code_unsplit false u) q s led)
+    power : (n : ℕ) → n ≡ 2 ^ (e - 1) → (s + (2 ^ 32 - (n + p - 2))) % 2 ^ 32 ≡ exponent (format e p) x
+    power n i = ap (λ (y : ℕ). (s + (2 ^ 32 - (y + p - 2))) % 2 ^ 32) i ∙ ap (λ (y : ℕ). y % 2 ^ 32) (moved s (lowest (format e p)) (omega (arith, w.few, w.weight))) ∙ sym (exponent_is (format e p) x (code_unsplit false u) q s led)
       where
-        wraps : (r s b : ℕ) → r < 2 ^ 32 → s < 2 ^ 32 → b < 2 ^ 32 → (r + b) % 2 ^ 32 ≡ s → r ≡ (2 ^ 32 + s - b) % 2 ^ 32
-        wraps r s b i j k g = omega arith
+        moved : (s b : ℕ) → b < 2 ^ 32 → s + (2 ^ 32 - b) ≡ 2 ^ 32 + s - b
+        moved s b h = omega arith
 
 powers_at : (c : After-power-top) → Powers c.args.e c.args.p c.power-hidden.result c.power-top.result (2 ^ (c.args.e - 1) - 3)
 powers_at c = powers c.args.e c.args.p c.power-hidden.result c.power-top.result c.requires c.power-hidden.ensures c.power-top.ensures
@@ -124,5 +124,5 @@ returns c =
     let d = c.leading-d in
     let l = d.ensures in (
       digits a.e a.p a.x _ _ _ w u d.result.first d.result.count l c.choose-2.result c.choose-2.ensures,
-      power a.e a.p a.x _ _ _ w u d.result.first d.result.count l c.power.result c.wrapping_sub_u32.result c.power.ensures (search rules) (search rules) c.wrapping_sub_u32.ensures.value,
+      power a.e a.p a.x _ _ _ w u d.result.first d.result.count l c.power.result c.power.ensures,
     )

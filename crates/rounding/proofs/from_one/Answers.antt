@@ -39,7 +39,7 @@ returns c g w s i j =
     let h = c.power-hidden.result in
     let o = c.power.result - h in
     let point = c.power-point.result in
-    let P : point ≡ 2 ^ (a.p - (a.m - o) / h) = c.power-point.ensures ∙ rw (c.beyond-2.ensures, c.beyond.ensures) in
+    let P : point ≡ 2 ^ (a.p - (a.m - o) / h) = c.power-point.ensures ∙ rw (c.saturating_sub-2.ensures, c.saturating_sub.ensures) in
     lifted_cut w s a.m point c.lift.result (some (goal.at.returns c).After-power-point) (c.lift.ensures ∙ ap₂ (λ (x y : Bool). lift x y (a.m / point) point) i j)
     ∙ rw (P, N.unit_is, N.hidden_is) (whole_from w s (format a.e a.p) N.fields a.m (omega (arith, N.unit_is, N.hidden_is, c.power.ensures)))
 

@@ -1,5 +1,5 @@
 -- The turned type's place is the first word; from there the invariant is that writing all lanes comes to writing those from j on. Assumes nothing.
-use Prim.Native.Nat.{ℕ, ◌+◌, ◌-◌, ◌*◌, ◌/◌, ◌%◌, ◌≤◌, ◌<◌}
+use Prim.Native.Nat.{ℕ, ◌+◌, ◌*◌, ◌/◌, ◌%◌, ◌≤◌, ◌<◌}
 use mathlib.Core.Bool.{Bool, true, false, cond}
 use mathlib.Core.List.{List, []}
 use mathlib.Core.Path.{◌≡◌, refl, ap, sym, ◌∙◌}
@@ -60,7 +60,7 @@ columns-requires c =
     (rw (c.rows_at.ensures, first_kind c.requires.0) (few_rows (value_at c.args.w.now 3).kind (first_matrix c.requires.0)), all_there c.args.w.now 3 c.requires.0.formed)
 
 pub loop-j-init : goal.loop-j-init
-loop-j-init c = (search rules, refl, refl)
+loop-j-init c = (refl, refl)
 
 pub lane_at-requires : goal.lane_at-requires
 lane_at-requires c =
@@ -72,21 +72,21 @@ lane_at-requires c =
 
 pub bounds-out-j : goal.bounds-out-j
 bounds-out-j c =
-    let n = c.loop-j.invariant.1 ∙ length-set c.args.out.now 0 _ in
+    let n = c.loop-j.invariant.0 ∙ length-set c.args.out.now 0 _ in
     search rules
 
 pub loop-j-preserved : goal.loop-j-preserved
 loop-j-preserved c =
     let v = value_at c.args.w.now 3 in
     let l = c.loop-j in
-    let n = l.invariant.1 ∙ length-set c.args.out.now 0 _ in
+    let n = l.invariant.0 ∙ length-set c.args.out.now 0 _ in
     let s = turned_length v (first_matrix c.requires.0) in
     let m = c.turned-m.ensures ∙ ap turned c.columns.ensures in
     let e = moved c.requires.0 l.j c.columns_at-n.ensures c.rows_at.ensures c.count_at-count.ensures.0 m c.lane_at.ensures in
-    (search rules, simp length-set n, l.invariant.2 ∙ rw e (put_drop l.out 1 (transpose_of v).lanes l.j (omega arith) (omega arith)))
+    (simp length-set n, l.invariant.1 ∙ rw e (put_drop l.out 1 (transpose_of v).lanes l.j (omega arith) (omega arith)))
 
 pub shape_of-out : goal.shape_of-out
-shape_of-out c = c.loop-j.invariant.1 ∙ length-set c.args.out.now 0 _
+shape_of-out c = c.loop-j.invariant.0 ∙ length-set c.args.out.now 0 _
 
 pub returns : goal.returns
 returns c =
@@ -101,4 +101,4 @@ returns c =
     let q = c.turned_at.ensures ∙ ap (λ (k : Kind). place (turned_kind k)) (first_kind c.requires.0) in
     sym
     (ap (put o 0) (turned_words v m ∙ rw (← q)) ∙ put_cons o 0 _ lanes (omega arith)
-    ∙ l.invariant.2 ∙ rw z (put_nil l.out (1 + l.j)))
+    ∙ l.invariant.1 ∙ rw z (put_nil l.out (1 + l.j)))
