@@ -1,3 +1,2 @@
-pub mod Unpacked
-pub mod Halving
 pub mod Reached
+pub mod Unpacked
