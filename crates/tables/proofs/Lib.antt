@@ -1,2 +1,3 @@
-pub mod Reached
 pub mod Unpacked
+pub mod Halving
+pub mod Reached

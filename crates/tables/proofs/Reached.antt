@@ -13,8 +13,6 @@ use lib.IntN.{pos, negsuc}
 use lib.Signed.{le_z}
 use lib.Ieee.{Float, nan, binary32, add, mul, lt, of_int, of_bits}
 use lib.ListN.{length, get_or}
-use Rattle.std.specs.List.Sorted.{IsPartitionPoint}
-use Rattle.std.proofs.lemmas.List.Sorted.{IsNonDecreasingBy-from_default}
 use Rattle.half.specs.Format.{f32, top, is_nan, rank}
 use Rattle.values.proofs.Bools.{both}
 use Rattle.values.proofs.Tested.{below, below_at}
@@ -22,7 +20,7 @@ use Rattle.floats.proofs.Nan.{float_test, one_nan}
 use Rattle.norm.specs.Norm.{stepped, floor_code, packed_norm, number}
 use Rattle.norm.proofs.Normal.{Normal, packed}
 use Rattle.brighter.proofs.Crate.{crate_never_darker}
-use Rattle.tables.specs.Tables.{height, bottom, Start, Starts, Ascends, Found}
+use Rattle.tables.specs.Tables.{height, bottom, Start, Starts, Found}
 
 pub code_normal : (g : Bool) (x : ℕ) → Normal g 8 (packed_norm g 8 x)
 code_normal g x = packed g 8 x (lit≤ tt) (lit≤ tt)
@@ -89,27 +87,6 @@ begun g h t e =
 -- a table of starts, by one test of all its entries
 pub all_begin : (g : Bool) (l : List ℕ) → length l + bottom g ≡ 255 → below (λ k. begins g (k + suc (bottom g)) (get_or l k 0)) (length l) ≡ true → Starts g l
 all_begin g l n e = record { all = n; entry = λ k h. begun g (k + suc (bottom g)) (get_or l k 0) (below_at (λ k. begins g (k + suc (bottom g)) (get_or l k 0)) (length l) k e h) }
-
--- ---- the starts' order
--- the f32 at a start packs to its height at least, and so has reached each start that is not later
-pub ascending : (g : Bool) (l : List ℕ) → Starts g l → Ascends l
-ascending g l s = IsNonDecreasingBy-from_default (λ t. t) l 0 in_order
-  where
-    in_order : (i j : ℕ) → i ≤ j → j < length l → get_or l i 0 ≤ get_or l j 0
-    in_order i j h k =
-        let a = s.entry i (omega arith) in
-        let b = s.entry j k in
-        let x = b.lane in
-        let high = leb-true (j + suc (bottom g)) (height g (packed_norm g 8 x)) (sym (b.reached x b.number) ∙ le-leb (get_or l j 0) (rank f32 x) (omega (arith, b.there))) in
-        omega (arith, leb-true (get_or l i 0) (rank f32 x) (a.reached x b.number ∙ le-leb (i + suc (bottom g)) (height g (packed_norm g 8 x)) (omega arith)), b.there)
-
--- ---- where a search of them ends
-pub parted_there : (l : List ℕ) (v r : ℕ) → r ≤ length l → IsPartitionPoint (λ t. leb t v ≡ true) (λ t. leb t v ≡ false) l r → Found l v r
-parted_there l v r h p = record {
-  most = h;
-  reached = λ k e. leb-true (get_or l k 0) v (p.0 k 0 zero-le (omega arith));
-  short = λ k. leb-false (get_or l r 0) v (p.1 r 0 (omega arith) k);
-}
 
 -- ---- what the search finds
 lowest : (g : Bool) (x : ℕ) → bottom g ≤ height g (packed_norm g 8 x)

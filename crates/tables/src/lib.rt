@@ -1,11 +1,11 @@
 // Lanes of the two 8-bit norm formats in the crate's reading, as norm has them, by tables: no float is added, multiplied or divided (Q-11).
 #![tactic(auto)]
 
-ghost use Rattle.std.specs.Prelude.{◌≡◌, length};
+ghost use Rattle.std.specs.Prelude.{◌≡◌};
 ghost use Rattle.half.specs.Format.{f32, is_nan, rank};
 ghost use Rattle.values.specs.Program.{four};
 ghost use Rattle.norm.specs.Norm.{packed_norm, unpacked_norm};
-ghost use Rattle.tables.specs.Tables.{Lanes, Starts, Found, Ascends};
+ghost use Rattle.tables.specs.Tables.{Lanes, Starts, Found};
 
 use entries::{SNORM_LANES, SNORM_STARTS, UNORM_LANES, UNORM_STARTS};
 
@@ -58,12 +58,24 @@ fn place(x: u32) -> u32
     }
 }
 
-// How many of the starts v has reached.
+// How many of the starts v has reached, by halving: the one before `lo` is reached, and the one after the n that are left from there is not.
+// By hand: the library's `partition_point` jumps at each test, and packed a word a fifth slower.
 fn search(starts: &[u32], v: u32) -> usize
-    requires { Ascends starts.now }
     ensures { Found starts.now v result }
 {
-    starts.partition_point(|start| *start <= v)
+    let mut lo: usize = 0;
+    let mut n = starts.len();
+    while n > 0 {
+        let half = n / 2;
+        let mid = lo + half;
+        if starts[mid] <= v {
+            lo = mid + 1;
+            n = n - half - 1;
+        } else {
+            n = half;
+        }
+    }
+    lo
 }
 
 fn code(signed: bool, x: u32) -> u8

@@ -4,15 +4,12 @@ use Prim.Native.Nat.{◌+◌}
 use native.Mathlib.Omega.{arith}
 use Rattle.norm.specs.Norm.{packed_norm}
 use Rattle.tables.specs.Tables.{height, bottom}
-use Rattle.tables.proofs.Reached.{ascending, code_normal, found_height, found_snorm, found_unorm, nan_packs}
+use Rattle.tables.proofs.Reached.{code_normal, found_height, found_snorm, found_unorm, nan_packs}
 use Rattle.tables.proofs.code.Goals as goal
 use Rattle.tables.proofs.code.Goals.{After-search-reached}
 
 pub returns-then-is_nan : goal.returns-then-is_nan
 returns-then-is_nan c = let k = c.args in omega (arith, nan_packs k.signed k.x (sym c.is_nan.ensures ∙ c.if-is_nan.true))
-
-pub search-reached-requires : goal.search-reached-requires
-search-reached-requires c = ascending c.args.signed _ c.starts_of.ensures
 
 -- once the starts are searched
 found : (c : After-search-reached) → height c.args.signed (packed_norm c.args.signed 8 c.args.x) ≡ c.search-reached.result + bottom c.args.signed
