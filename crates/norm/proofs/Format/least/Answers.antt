@@ -5,7 +5,3 @@ use Rattle.norm.proofs.Format.least.Goals as goal
 pub returns-then-self : goal.returns-then-self
 unfolding of_bits neg
 returns-then-self c = rw c.if-self.true
-
-pub returns-else-self : goal.returns-else-self
-unfolding of_bits
-returns-else-self c = rw c.if-self.false

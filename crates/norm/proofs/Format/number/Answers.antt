@@ -1,29 +1,15 @@
 -- `norm::Format::number` meets its contract: a negative number's float is its size's, negated. Assumes nothing.
-use borrow.Author.Tests.{lt-ltb, le-ltb}
+use borrow.Author.Tests.{le-ltb}
 use mathlib.Core.Path.{◌≡◌, sym, ap, ◌∙◌}
 use mathlib.Core.Bool.{Bool, true, false, cond}
-use Prim.Native.Nat.{ℕ, suc, ◌-◌, ◌^◌, ◌≤◌, ◌<◌}
+use Prim.Native.Nat.{ℕ, suc, ◌-◌, ◌^◌, ◌<◌}
 use native.Mathlib.Omega.{arith}
 use lib.Dec.{ltb}
 use lib.IntN.{pos, negsuc}
 use lib.Ieee.{binary32, of_int, neg, round}
 use Rattle.norm.specs.Norm as Norm
-use Rattle.norm.proofs.Widths.{full_most}
 use Rattle.norm.proofs.Signs.{round_neg}
 use Rattle.norm.proofs.Format.number.Goals as goal
-use Rattle.norm.proofs.Format.number.Goals.{Start}
-
-small : (c : Start) → c.args.c ≤ 65536
-small c = omega (arith, full_most c.args.self.w c.args.self.widths.1)
-
-pub whole-requires : goal.whole-requires
-whole-requires c = small (goal.at.whole-requires c).Start
-
-pub whole-requires-else-c-power : goal.whole-requires-else-c-power
-whole-requires-else-c-power c = omega (arith, full_most c.args.self.w c.args.self.widths.1)
-
-pub whole-requires-else-self : goal.whole-requires-else-self
-whole-requires-else-self c = small (goal.at.whole-requires-else-self c).Start
 
 negated : (n c : ℕ) → c < n → neg (of_int binary32 (pos (n - c))) ≡ of_int binary32 (negsuc (n - suc c))
 unfolding of_int
@@ -35,11 +21,6 @@ negated n c h = sym (round_neg binary32 false (n - c) 1) ∙ ap (λ (k : ℕ). r
 at : (w c : ℕ) (below : Bool) → ltb c (2 ^ (w - 1)) ≡ below → of_int binary32 (Norm.number true w c) ≡ of_int binary32 (cond below (pos c) (negsuc (2 ^ w - suc c)))
 at w c below e = rw e
 
-pub returns-then-c-power : goal.returns-then-c-power
-returns-then-c-power c =
-    let a = c.args in
-    rw c.if-self.true (c.whole.ensures ∙ sym (at a.self.w a.c true (lt-ltb a.c (2 ^ (a.self.w - 1)) (omega arith))))
-
 pub returns-else-c-power : goal.returns-else-c-power
 returns-else-c-power c =
     let a = c.args in
@@ -47,6 +28,3 @@ returns-else-c-power c =
     (ap neg (c.whole-else-c-power.ensures ∙ ap (λ (n : ℕ). of_int binary32 (pos (n - a.c))) c.power-else-c-power.ensures)
     ∙ negated (2 ^ a.self.w) a.c (omega arith)
     ∙ sym (at a.self.w a.c false (le-ltb a.c (2 ^ (a.self.w - 1)) (omega arith))))
-
-pub returns-else-self : goal.returns-else-self
-returns-else-self c = rw c.if-self.false c.whole-else-self.ensures

@@ -1,19 +1,14 @@
 -- `norm::Format::step` meets its contract: each operation is the definition's. Assumes nothing.
 use mathlib.Core.Bool.{Bool, true, false}
-use native.Mathlib.Omega.{arith}
 use lib.Dec.{T}
 use lib.Ieee.{Float, le, of_bits}
 use Rattle.norm.specs.Norm.{least, stepped}
-use Rattle.norm.proofs.Widths.{scale_most}
 use Rattle.norm.proofs.Format.step.Goals as goal
 
 -- what is at or above the least of both kinds
 either : (g : Bool) (x : Float) → T (le (least false) x) → T (le (least true) x) → T (le (least g) x)
 either false x h k = h
 either true x h k = k
-
-pub whole-requires : goal.whole-requires
-whole-requires c = omega (arith, scale_most c.args.self.signed c.args.self.w c.args.self.widths.1)
 
 pub clamp-requires : goal.clamp-requires
 unfolding of_bits le
