@@ -4,7 +4,7 @@
 
 ghost use Rattle.std.specs.Prelude.{◌≡◌, cond, ◌&&◌, [], length};
 ghost use Rattle.readings.specs.Readings.{is_reading, reading_at};
-ghost use Rattle.engines.specs.Engines.{is_engine};
+ghost use Rattle.engines.specs.Engines.{is_engine, engine_at};
 ghost use Rattle.half.specs.Convert.{half_of, single_of};
 ghost use Rattle.losses.specs.Losses.{told_of};
 ghost use Rattle.buffers.specs.Memory.{put};
@@ -20,6 +20,7 @@ ghost use Rattle.diffs.specs.Diffs.{compared_in, kinds_in};
 ghost use Rattle.diffs.specs.Places.{first_place};
 ghost use Rattle.numbers.specs.Number.{told_number, refusal_or_count, line_number, read_number, written_number, sort_number, diff_number, place_number};
 
+use engines::Engine;
 use readings::Reading;
 
 // Folds a line of 01 into its answer, without newlines. Answers the refusal's number times 2^32, or the length of what was written.
@@ -44,10 +45,13 @@ pub extern "C" fn chanrelout_call(call: &[u64], out: &mut [u64]) -> u8
 // What a number gives that is no reading or no engine: a refusal by 1, as of a name that is not in the table, before anything is looked at.
 const NO_SUCH_CHOICE: u8 = 1;
 
-fn are_choices(reading: u64, engine: u64) -> bool
-    ensures { result ≡ is_reading reading && is_engine engine }
+// The reading and the engine of two numbers that have both.
+fn choices(reading: u64, engine: u64) -> Option<(Reading, Engine)>
+    ensures { result ≡ cond (is_reading reading && is_engine engine) (Some (reading_at reading, engine_at engine)) None }
 {
-    (reading < 2) & (engine < 2)
+    let reading = Reading::try_from(reading).ok()?;
+    let engine = Engine::try_from(engine).ok()?;
+    Some((reading, engine))
 }
 
 // The same two in a reading, 0 the crate's and 1 the text's, and by an engine, 0 arithmetic and 1 tables, which changes no answer.
@@ -56,12 +60,13 @@ pub extern "C" fn chanrelout_line_by(reading: u64, engine: u64, line: &[u8], out
     ensures { (result ≡ cond (is_reading reading && is_engine engine) (line_number (text.line_answer (reading_at reading) (length out.old) line.now)) (refusal_or_count 1 0))
         × (out.new ≡ put out.old 0 (cond (is_reading reading && is_engine engine) (text.written_in (reading_at reading) (length out.old) line.now) [])) }
 {
-    if are_choices(reading, engine) {
-        let chosen = engines::engine_at(engine);
-        let a = lines::fold_line_in(readings::reading_at(reading), chosen, line, out);
-        return numbers::line_number(a);
+    match choices(reading, engine) {
+        Some((reading, engine)) => {
+            let a = lines::fold_line_in(reading, engine, line, out);
+            numbers::line_number(a)
+        }
+        None => NO_SUCH_CHOICE as u64 * 0x1_0000_0000,
     }
-    NO_SUCH_CHOICE as u64 * 0x1_0000_0000
 }
 
 #[unsafe(no_mangle)]
@@ -69,11 +74,10 @@ pub extern "C" fn chanrelout_call_by(reading: u64, engine: u64, call: &[u64], ou
     ensures { (result ≡ cond (is_reading reading && is_engine engine) (refusal_in (reading_at reading) (length out.old) call.now) 1)
         × (out.new ≡ put out.old 0 (cond (is_reading reading && is_engine engine) (written_in (reading_at reading) (length out.old) call.now) [])) }
 {
-    if are_choices(reading, engine) {
-        let chosen = engines::engine_at(engine);
-        return builtins::fold_in(readings::reading_at(reading), chosen, call, out);
+    match choices(reading, engine) {
+        Some((reading, engine)) => builtins::fold_in(reading, engine, call, out),
+        None => NO_SUCH_CHOICE,
     }
-    NO_SUCH_CHOICE
 }
 
 // In a reading, by arithmetic.
@@ -105,11 +109,10 @@ pub extern "C" fn chanrelout_calls_by(
     ensures { (result ≡ cond (is_reading reading && is_engine engine) (refusal_of_all (length out.old) calls.now) 1)
         × (out.new ≡ put out.old 0 (cond (is_reading reading && is_engine engine) (written_of_all (reading_at reading) (length out.old) calls.now) [])) }
 {
-    if are_choices(reading, engine) {
-        let chosen = engines::engine_at(engine);
-        return materials::fold_words(readings::reading_at(reading), chosen, calls, out);
+    match choices(reading, engine) {
+        Some((reading, engine)) => materials::fold_words(reading, engine, calls, out),
+        None => NO_SUCH_CHOICE,
     }
-    NO_SUCH_CHOICE
 }
 
 // In the crate's reading, by arithmetic.

@@ -2,7 +2,7 @@
 #![tactic(auto)]
 
 ghost use Rattle.std.specs.Prelude.{◌≡◌};
-ghost use Rattle.engines.specs.Engines.{engine_at};
+ghost use Rattle.engines.specs.Engines.{Names, engine_at};
 
 #[derive(Clone, Copy)]
 pub enum Engine {
@@ -10,13 +10,27 @@ pub enum Engine {
     Tables,
 }
 
-// The engine of a number, 0 or 1.
+// A number that is no engine's.
+#[derive(Clone, Copy)]
+pub struct NoEngine(pub u64);
+
+impl TryFrom<u64> for Engine {
+    type Error = NoEngine;
+
+    ghost try_from_gives = { Names };
+
+    fn try_from(n: u64) -> Result<Self, NoEngine> {
+        match n {
+            0 => Ok(Engine::Arithmetic),
+            1 => Ok(Engine::Tables),
+            _ => Err(NoEngine(n)),
+        }
+    }
+}
+
+// The same of every number: one that is no engine's gives arithmetic. It stays beside the conversion, since it never failed.
 pub fn engine_at(n: u64) -> Engine
     ensures { result ≡ engine_at n }
 {
-    if n == 1 {
-        Engine::Tables
-    } else {
-        Engine::Arithmetic
-    }
+    Engine::try_from(n).unwrap_or(Engine::Arithmetic)
 }

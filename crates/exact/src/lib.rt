@@ -4,6 +4,9 @@
 ghost use Rattle.std.specs.Prelude.{◌≡◌, cond, ◌+◌, ◌-◌, ◌*◌, ◌%◌, ◌^◌, ◌≤◌, ◌<◌};
 ghost use Rattle.exact.specs.Exact.{floor_half, exact_code};
 
+use norm::Format;
+
+// half's `power` with 64 bits. One function for both would need a trait of shifts with its laws, for two bodies of one operation.
 fn power(n: u32) -> u64
     requires { n ≤ 42 }
     ensures { result ≡ 2 ^ n }
@@ -40,20 +43,19 @@ fn floor_half(full: u64, negative: bool, a: u64, d: u64) -> u32
 
 // A NaN and an unorm lane below 0 give 0, and so does a size below 2^-19, which no scale brings to a half. From there up to 1 a lane is its digits over 2^k,
 // where k is from 23 to 42, so that all is held in 64 bits.
-pub fn pack(signed: bool, w: u32, x: u32) -> u32
-    requires { (1 ≤ w) × (w ≤ 16) }
-    ensures { result ≡ exact_code signed w x }
+pub fn pack(f: Format, x: u32) -> u32
+    ensures { result ≡ exact_code f.signed f.w x }
 {
     let m = x % 0x8000_0000;
     let negative = x >= 0x8000_0000;
-    if (m > 0x7f80_0000) | (m < 0x3600_0000) | (negative & !signed) {
+    if (m > 0x7f80_0000) | (m < 0x3600_0000) | (negative & !f.signed) {
         return 0;
     }
-    let c = norm::smaller(m, 0x3f80_0000);
+    let c = m.min(0x3f80_0000);
     floor_half(
-        power(w),
+        power(f.w),
         negative,
-        norm::scale(signed, w) as u64 * digits(c),
+        f.scale() as u64 * digits(c),
         power(150 - c / 0x80_0000),
     )
 }

@@ -10,15 +10,15 @@ pub fn f32_of(n: u32) -> f32
     ensures { result ≡ of_bits binary32 n }
 {
     if n % 0x8000_0000 > 0x7f80_0000 {
-        0.0 / 0.0
+        f32::NAN
     } else {
         f32::from_bits(n)
     }
 }
 
-// Only a NaN differs from itself. Its pattern is 7FC00000.
+// A NaN's pattern is 7FC00000.
 pub fn bits_of(x: f32) -> u32
     ensures { result ≡ to_bits binary32 x }
 {
-    if x != x { 0x7fc0_0000 } else { f32::to_bits(x) }
+    if x.is_nan() { 0x7fc0_0000 } else { x.to_bits() }
 }

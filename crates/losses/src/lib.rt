@@ -5,21 +5,23 @@ ghost use Rattle.std.specs.Prelude.{◌≡◌, ◌≤◌, eqb};
 ghost use Rattle.half.specs.Convert.{half_of, single_of};
 ghost use Rattle.losses.specs.Losses.{loss_number, loss_of, told_of};
 
-// Rounded: to a finite half, which may be a zero. Overflowed: a finite number became an infinity.
-#[derive(Clone, Copy)]
+// Rounded: to a finite half, which may be a zero. Overflowed: a finite number became an infinity. The larger loss is the one with the larger number.
+#[derive(Clone, Copy, PartialEq, Eq, PartialOrd, Ord)]
 pub enum Loss {
     Exact,
     Rounded,
     Overflowed,
 }
 
-pub fn loss_number(l: Loss) -> u8
-    ensures { (result ≡ loss_number l) × (result ≤ 2) }
-{
-    match l {
-        Loss::Exact => 0,
-        Loss::Rounded => 1,
-        Loss::Overflowed => 2,
+impl From<Loss> for u8 {
+    ghost from_gives = { λ l n. (n ≡ loss_number l) × (n ≤ 2) };
+
+    fn from(l: Loss) -> u8 {
+        match l {
+            Loss::Exact => 0,
+            Loss::Rounded => 1,
+            Loss::Overflowed => 2,
+        }
     }
 }
 

@@ -21,8 +21,7 @@ fn refusal_or_count(refusal: u8, n: usize) -> u64
 pub fn told_number(c: Converted) -> u32
     ensures { result ≡ told_number c }
 {
-    let loss = c.loss;
-    (losses::loss_number(loss) as u32) * 0x1_0000 + c.half as u32
+    u8::from(c.loss) as u32 * 0x1_0000 + c.half as u32
 }
 
 pub fn line_number(a: LineAnswer) -> u64

@@ -1,8 +1,7 @@
--- In either reading a norm code has w bits and is its own normal code, so that the cut to w bits does not change it. Assumes nothing.
-use Prim.Native.Nat.{ℕ, ◌%◌, ◌^◌, ◌≤◌}
+-- In either reading a norm code has w bits and is its own normal code, so that a cut to w bits does not change it. Assumes nothing.
+use Prim.Native.Nat.{ℕ, ◌^◌, ◌≤◌, ◌<◌}
 use mathlib.Core.Bool.{Bool}
-use mathlib.Core.Path.{◌≡◌, ap, ◌∙◌}
-use native.Mathlib.Nat.{mod-eq_of_lt}
+use mathlib.Core.Path.{◌≡◌, sym, subst}
 use Rattle.readings.specs.declared.Reading.{Reading}
 use Rattle.readings.specs.declared.Reading.TheVariants as In
 use Rattle.norm.proofs.Normal.{Normal, packed}
@@ -13,5 +12,5 @@ pub code_normal : (r : Reading) (g : Bool) (w x : ℕ) → 1 ≤ w → w ≤ 16 
 code_normal In.Crate g w x lo hi = packed g w x lo hi
 code_normal In.Text g w x lo hi = exact_normal g w x lo
 
-pub cut_code : (r : Reading) (g : Bool) (w x y : ℕ) → 1 ≤ w → w ≤ 16 → y ≡ norm_code r g w x → y % 2 ^ w ≡ norm_code r g w x
-cut_code r g w x y lo hi e = ap (λ (z : ℕ). z % 2 ^ w) e ∙ mod-eq_of_lt (code_normal r g w x lo hi).below
+pub within : (r : Reading) (g : Bool) (w x y : ℕ) → 1 ≤ w → w ≤ 16 → y ≡ norm_code r g w x → (y ≡ norm_code r g w x) × (y < 2 ^ w)
+within r g w x y lo hi e = (e, subst (λ z. z < 2 ^ w) (sym e) (code_normal r g w x lo hi).below)

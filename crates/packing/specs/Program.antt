@@ -2,6 +2,8 @@
 use Rattle.std.specs.Prelude.{ℕ, true, false, List, get_or}
 use Rattle.std.specs.Int.Bits.{bit_or}
 use Rattle.half.specs.Convert.{half_of, single_of}
+use Rattle.losses.specs.declared.Loss.{Loss}
+use Rattle.losses.specs.declared.Loss.TheVariants.{Exact}
 use Rattle.losses.specs.Losses.{loss_number, loss_of}
 use Rattle.norm.specs.Norm.{unpacked_norm}
 use Rattle.exact.specs.Exact.{norm_code}
@@ -14,8 +16,6 @@ use Rattle.packing.specs.declared.Coding8.TheVariants as Of8
 use Rattle.packing.specs.declared.Coding16.{Coding16}
 use Rattle.packing.specs.declared.Coding16.TheVariants as Of16
 use Rattle.packing.specs.declared.Coded16.{Coded16}
-use Rattle.packing.specs.declared.Table.{Table}
-use Rattle.packing.specs.declared.Table.TheVariants as By
 use Rattle.packing.specs.Lanes.{low_byte, extended, plain, filling_from, clamped_i8, code_u8}
 
 abbrev pub code8_of : Reading → Coding8 → ℕ → ℕ
@@ -39,26 +39,18 @@ code16_of r Of16.Snorm = norm_code r true 16
 code16_of r Of16.Unorm = norm_code r false 16
 code16_of r Of16.Float = half_of
 
--- the table that has the lanes, and that packs them in a reading
-abbrev pub table_of : Coding8 → Table
-table_of Of8.Snorm = By.Snorm
-table_of Of8.Unorm = By.Unorm
-table_of Of8.Signed = By.Neither
-table_of Of8.Unsigned = By.Neither
-table_of Of8.ClampedSigned = By.Neither
-table_of Of8.ClampedUnsigned = By.Neither
+-- what a lane loses that becomes such a code, and the loss's number
+abbrev pub lost16_of : Coding16 → ℕ → Loss
+lost16_of Of16.Snorm x = Exact
+lost16_of Of16.Unorm x = Exact
+lost16_of Of16.Float x = loss_of x
 
-abbrev pub table_in : Reading → Coding8 → Table
-table_in In.Crate t = table_of t
-table_in In.Text t = By.Neither
-
--- what a lane loses that becomes such a code
 abbrev pub loss16_of : Coding16 → ℕ → ℕ
 loss16_of Of16.Snorm x = 0
 loss16_of Of16.Unorm x = 0
 loss16_of Of16.Float x = loss_number (loss_of x)
 
-abbrev pub coded : ℕ → ℕ → Coded16
+abbrev pub coded : ℕ → Loss → Coded16
 coded code loss = record { code = code; loss = loss }
 
 abbrev pub lane16_of : Coding16 → ℕ → ℕ

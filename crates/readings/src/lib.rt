@@ -2,7 +2,7 @@
 #![tactic(auto)]
 
 ghost use Rattle.std.specs.Prelude.{◌≡◌};
-ghost use Rattle.readings.specs.Readings.{reading_at};
+ghost use Rattle.readings.specs.Readings.{Names, reading_at};
 
 #[derive(Clone, Copy)]
 pub enum Reading {
@@ -10,13 +10,27 @@ pub enum Reading {
     Text,
 }
 
-// The reading of a number, 0 or 1.
+// A number that is no reading's.
+#[derive(Clone, Copy)]
+pub struct NoReading(pub u64);
+
+impl TryFrom<u64> for Reading {
+    type Error = NoReading;
+
+    ghost try_from_gives = { Names };
+
+    fn try_from(n: u64) -> Result<Self, NoReading> {
+        match n {
+            0 => Ok(Reading::Crate),
+            1 => Ok(Reading::Text),
+            _ => Err(NoReading(n)),
+        }
+    }
+}
+
+// The same of every number: one that is no reading's gives the crate's. It stays beside the conversion, since it never failed.
 pub fn reading_at(n: u64) -> Reading
     ensures { result ≡ reading_at n }
 {
-    if n == 1 {
-        Reading::Text
-    } else {
-        Reading::Crate
-    }
+    Reading::try_from(n).unwrap_or(Reading::Crate)
 }

@@ -12,20 +12,20 @@ few : (a b : ℕ) → a ≤ 65535 → b ≤ 0x100_0000 → a * b ≤ 65535 * 0x1
 few a b h k = mul-le-mul h k
 
 pub returns-then-m-negative : goal.returns-then-m-negative
-returns-then-m-negative c = sym (nothing c.args.signed c.args.w c.args.x (omega arith) c.if-m-negative.true)
+returns-then-m-negative c = sym (nothing c.args.f.signed c.args.f.w c.args.x c.args.f.widths.1 c.if-m-negative.true)
 
 pub overflow_mul-scale : goal.overflow_mul-scale
-overflow_mul-scale c = omega (arith, few c.scale.result c.digits.result (omega (arith, scale_most c.args.signed c.args.w (omega arith))) (omega arith))
+overflow_mul-scale c = omega (arith, few c.scale.result c.digits.result (omega (arith, scale_most c.args.f.signed c.args.f.w c.args.f.widths.1)) (omega arith))
 
 pub power-requires-2 : goal.power-requires-2
-power-requires-2 c = omega (arith, (something c.args.signed c.args.w c.args.x c.if-m-negative.false).0)
+power-requires-2 c = omega (arith, (something c.args.f.signed c.args.f.w c.args.x c.if-m-negative.false).0)
 
 pub floor_half-requires : goal.floor_half-requires
 floor_half-requires c =
-    let g = c.args.signed in
-    let w = c.args.w in
-    let m = c.smaller-c.result in
-    let full = full_most w (omega arith) in
+    let g = c.args.f.signed in
+    let w = c.args.f.w in
+    let m = c.min-c.result in
+    let full = full_most w c.args.f.widths.1 in
     let low = (something g w c.args.x c.if-m-negative.false).0 in (
       omega (arith, pow_pos w),
       omega arith,
@@ -37,5 +37,5 @@ floor_half-requires c =
 pub returns : goal.returns
 returns c =
     c.floor_half.ensures
-    ∙ rw (c.power-2.ensures, c.digits.ensures, c.scale.ensures, c.power.ensures, c.smaller-c.ensures)
-    (sym (something c.args.signed c.args.w c.args.x c.if-m-negative.false).1)
+    ∙ rw (c.power-2.ensures, c.digits.ensures, c.scale.ensures, c.power.ensures, c.min-c.ensures)
+    (sym (something c.args.f.signed c.args.f.w c.args.x c.if-m-negative.false).1)

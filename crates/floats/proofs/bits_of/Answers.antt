@@ -1,14 +1,9 @@
--- `floats::bits_of` meets its contract: a float that differs from itself is the NaN. Assumes nothing.
-use mathlib.Core.Path.{sym, ap, subst}
-use lib.Dec.{T}
+-- `floats::bits_of` meets its contract: all NaN are one, and its pattern is 7FC00000. Assumes nothing.
+use mathlib.Core.Path.{sym, ap, ◌∙◌}
 use lib.Ieee.{binary32, to_bits}
-use lib.Ieee.Compare.{differs_from_itself}
-use Rattle.floats.proofs.Nan.{same_as_itself}
+use Rattle.floats.proofs.Nan.{one_nan}
 use Rattle.floats.proofs.bits_of.Goals as goal
 
-pub float_to_bits-result : goal.float_to_bits-result
-float_to_bits-result c = same_as_itself c.args.x c.if-x.false
-
-pub returns-then-x : goal.returns-then-x
+pub returns-then-is_nan : goal.returns-then-is_nan
 unfolding to_bits
-returns-then-x c = sym (ap (to_bits binary32) (differs_from_itself c.args.x (subst T (sym c.if-x.true) tt)))
+returns-then-is_nan c = sym (ap (to_bits binary32) (one_nan c.args.x (sym c.is_nan.ensures.value ∙ c.if-is_nan.true)))

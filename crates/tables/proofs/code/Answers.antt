@@ -15,7 +15,7 @@ returns-then-is_nan c = let k = c.args in omega (arith, nan_packs k.signed k.x (
 found : (c : After-search-reached) → height c.args.signed (packed_norm c.args.signed 8 c.args.x) ≡ c.search-reached.result + bottom c.args.signed
 found c =
     let number = sym c.is_nan.ensures ∙ c.if-is_nan.false in
-    found_height c.args.signed _ c.args.x c.search-reached.result number c.requires (rw c.place.ensures at c.search-reached.ensures)
+    found_height c.args.signed _ c.args.x c.search-reached.result number c.starts_of.ensures (rw c.place.ensures at c.search-reached.ensures)
 
 pub returns-then-signed : goal.returns-then-signed
 returns-then-signed c =

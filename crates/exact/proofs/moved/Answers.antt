@@ -1,8 +1,0 @@
--- `exact::moved` meets its contract: its test is the definition's. Assumes nothing.
-use Rattle.exact.proofs.moved.Goals as goal
-
-pub returns-then-negative : goal.returns-then-negative
-returns-then-negative c = rw c.if-negative.true
-
-pub returns-else-negative : goal.returns-else-negative
-returns-else-negative c = rw c.if-negative.false

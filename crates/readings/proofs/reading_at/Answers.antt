@@ -1,9 +1,0 @@
--- Each branch is a case of the definition. Assumes nothing.
-use borrow.Author.Tests.{eq-eqb, ne_eqb}
-use Rattle.readings.proofs.reading_at.Goals as goal
-
-pub returns-then-n-eq1 : goal.returns-then-n-eq1
-returns-then-n-eq1 c = rw (eq-eqb c.args.n 1 c.if-n-eq1.true)
-
-pub returns-else-n-eq1 : goal.returns-else-n-eq1
-returns-else-n-eq1 c = rw (ne_eqb c.args.n 1 c.if-n-eq1.false)
