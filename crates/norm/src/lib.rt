@@ -1,7 +1,7 @@
 // Lanes of the norm formats. The formats differ in two things, as their definitions do: whether codes are signed, and their width w.
 #![tactic(auto)]
 
-ghost use Rattle.std.specs.Prelude.{◌≡◌, true, cond, ◌/◌, ◌^◌, ◌≤◌, ◌<◌, T, pos};
+ghost use Rattle.std.specs.Prelude.{◌≡◌, cond, ◌/◌, ◌^◌, ◌≤◌, ◌<◌, T, pos};
 ghost use Rattle.std.specs.Float.{binary32};
 ghost use Rattle.std.specs.Float.Ieee.{lt, le, of_int, fits};
 ghost use Rattle.half.specs.Format.{f32, magnitude, units};
