@@ -40,7 +40,8 @@ fn whole_part(n: u32) -> u32
     (m % 0x80_0000 + 0x80_0000) >> (150 - m / 0x80_0000)
 }
 
-// v rounded down, at most 65536: from the bits, since a cast of an f32 goes by way of f64.
+// v rounded down, at most 65536: from the bits, since a cast of an f32 goes by way of f64. That v fits is asked in three contracts, since a contract takes any
+// float: a type round an f32 would say no more, and each step would have to unwrap it.
 fn size_down(v: f32) -> u32
     requires { T (le nought v) × T (fits binary32 v) }
     ensures { result ≡ size_down v }
