@@ -71,7 +71,8 @@ pub fn f32_to_f16(n: u32) -> u16
     (n / 0x8000_0000 * 0x8000 + half_magnitude(m)) as u16
 }
 
-// A normal half's digits move up by 13 and its exponent's field by 112.
+// A normal half's digits move up by 13 and its exponent's field by 112. The bound of m stands in three contracts: the one function behind them all makes such
+// an m once, so that a type for it would be no plainer.
 fn normal_magnitude(m: u32) -> u32
     requires { m < 0x8000 }
     ensures { (1024 ≤ m → m < 0x7c00 → result ≡ converted_magnitude f16 f32 m) × (result < 0x8000_0000) }

@@ -1,7 +1,7 @@
 // Lanes of the norm formats. The formats differ in two things, as their definitions do: whether codes are signed, and their width w.
 #![tactic(auto)]
 
-ghost use Rattle.std.specs.Prelude.{◌≡◌, true, cond, ◌/◌, ◌^◌, ◌≤◌, ◌<◌, T, pos};
+ghost use Rattle.std.specs.Prelude.{◌≡◌, cond, ◌/◌, ◌^◌, ◌≤◌, ◌<◌, T, pos};
 ghost use Rattle.std.specs.Float.{binary32};
 ghost use Rattle.std.specs.Float.Ieee.{lt, le, of_int, fits};
 ghost use Rattle.half.specs.Format.{f32, magnitude, units};
@@ -40,7 +40,8 @@ fn whole_part(n: u32) -> u32
     (m % 0x80_0000 + 0x80_0000) >> (150 - m / 0x80_0000)
 }
 
-// v rounded down, at most 65536: from the bits, since a cast of an f32 goes by way of f64.
+// v rounded down, at most 65536: from the bits, since a cast of an f32 goes by way of f64. That v fits is asked in three contracts, since a contract takes any
+// float: a type round an f32 would say no more, and each step would have to unwrap it.
 fn size_down(v: f32) -> u32
     requires { T (le nought v) × T (fits binary32 v) }
     ensures { result ≡ size_down v }
