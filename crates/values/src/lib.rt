@@ -4,7 +4,7 @@
 mod parts;
 
 ghost use Rattle.std.specs.Prelude.{◌≡◌, cond, ◌*◌, ◌≤◌, ltb};
-ghost use Rattle.values.specs.Value.{size_of, of_width, scalar_of, lane_count, is_type, shaped, place, kind_at, empty_value};
+ghost use Rattle.values.specs.Value.{size_of, of_width, scalar_of, lane_count, is_type, shaped, place, kind_at, same_kind, empty_value};
 ghost use Rattle.values.specs.Program.{low};
 
 #[derive(Clone, Copy, PartialEq, Eq)]
@@ -110,7 +110,7 @@ pub fn shaped_as(t: Scalar, k: Kind) -> Kind
     }
 }
 
-// A type's place in the list of them all. Two types are == where their places are one.
+// A type's place in the list of them all.
 pub fn place_of(k: Kind) -> u64
     ensures { result ≡ place k }
 {
@@ -120,6 +120,13 @@ pub fn place_of(k: Kind) -> u64
         Kind::Vec(n, s) => parts::vec_place(n, s),
         Kind::Mat(c, r, w) => parts::mat_place(c, r, w),
     }
+}
+
+// Whether two types are one: == is whether their places are.
+pub fn same_kind(k: Kind, l: Kind) -> bool
+    ensures { result ≡ same_kind k l }
+{
+    k == l
 }
 
 // The type of a place.
