@@ -10,6 +10,7 @@ use lib.Dec.{ltb, eqb}
 use borrow.Author.Tests.{le-leb, lt-ltb, le-ltb, ne_eqb}
 use lib.ListN.{length, take, drop, set, get_or, length-append, length-drop, take-append-drop}
 use lib.Seq.{drop-cons, take_at, drop-append-add, drop-drop, length-take-le, set_split, append_snoc}
+use borrow.Rule.Slice.PartMut.{put_mid}
 use Rattle.buffers.specs.Memory.{put, fits}
 
 module _ (o : List ℕ) (at : ℕ) (xs : List ℕ) (h : at + length xs ≤ length o) where
@@ -41,6 +42,11 @@ put_set o at b h = set_split o at b h ∙ rw (append_snoc, add-one)
 pub then : (o : List ℕ) {o' o'' : List ℕ} (at : ℕ) {a : ℕ} (xs ys : List ℕ) → at + length xs ≤ length o
     → o' ≡ put o at xs → a ≡ at + length xs → o'' ≡ put o' a ys → o'' ≡ put o at (xs ++ ys)
 then o at xs ys h e ea e2 = e2 ∙ rw (e, ea) (put_put o at xs h ys)
+
+-- what is copied into a part of its length, as the library has it
+pub put_part : (o : List ℕ) (at n : ℕ) (xs : List ℕ) → n ≡ length xs → put_mid at n o xs ≡ put o at xs
+unfolding put
+put_part o at n xs e = rw (e, drop-drop (length xs) at o) (sym (append_assoc (take at o) xs (drop (at + length xs) o)))
 
 pub put_nil : (o : List ℕ) (at : ℕ) → put o at [] ≡ o
 unfolding put

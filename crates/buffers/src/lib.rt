@@ -1,7 +1,7 @@
 // Bytes compared, found, and written into lent memory.
 #![tactic(auto)]
 
-ghost use Rattle.std.specs.Prelude.{◌≡◌, cond, ◌+◌, ◌≤◌, ◌<◌, leb, length, take, drop};
+ghost use Rattle.std.specs.Prelude.{◌≡◌, cond, ◌+◌, ◌≤◌, ◌<◌, leb, length, drop};
 ghost use Rattle.buffers.specs.Text.{same_bytes, place_of};
 ghost use Rattle.buffers.specs.Memory.{put, fits};
 
@@ -9,46 +9,11 @@ use choosing::choose;
 
 // ---- bytes
 
-// Whether four bytes from i on are the same in both. The tests are joined without branches, so that those of eight are one.
-fn four_same(a: &[u8], b: &[u8], i: usize) -> bool
-    requires { (i + 4 ≤ length a.now) × (i + 4 ≤ length b.now) }
-    ensures { result ≡ same_bytes (take 4 (drop i a.now)) (take 4 (drop i b.now)) }
-{
-    (a[i] == b[i]) & (a[i + 1] == b[i + 1]) & (a[i + 2] == b[i + 2]) & (a[i + 3] == b[i + 3])
-}
-
-fn eight_same(a: &[u8], b: &[u8], i: usize) -> bool
-    requires { (i + 8 ≤ length a.now) × (i + 8 ≤ length b.now) }
-    ensures { result ≡ same_bytes (take 8 (drop i a.now)) (take 8 (drop i b.now)) }
-{
-    four_same(a, b, i) & four_same(a, b, i + 4)
-}
-
-// Whether two slices hold the same bytes. The last eight may overlap those before.
+// Whether two slices hold the same bytes.
 pub fn same(a: &[u8], b: &[u8]) -> bool
     ensures { result ≡ same_bytes a.now b.now }
 {
-    let n = a.len();
-    if n != b.len() {
-        return false;
-    }
-    let mut i = 0;
-    if n < 8 {
-        while i < n {
-            if a[i] != b[i] {
-                return false;
-            }
-            i += 1;
-        }
-        return true;
-    }
-    while n - i > 8 {
-        if !eight_same(a, b, i) {
-            return false;
-        }
-        i += 8;
-    }
-    eight_same(a, b, n - 8)
+    a == b
 }
 
 // Whether none of the four bytes from i on is b, tested as one too.
@@ -113,22 +78,16 @@ fn copy(out: &mut [u8], at: usize, s: &[u8]) -> usize
     requires { at + length s.now ≤ length out.old }
     ensures { (result ≡ at + length s.now) × (out.new ≡ put out.old at s.now) }
 {
-    let mut i: usize = 0;
-    while i < s.len() {
-        out[at + i] = s[i];
-        i += 1;
-    }
-    at + i
+    let end = at + s.len();
+    out[at..end].copy_from_slice(s);
+    end
 }
 
 // Whether n bytes from `at` on lie within len bytes.
 pub fn room(len: usize, at: usize, n: usize) -> bool
     ensures { result ≡ leb (at + n) len }
 {
-    if len < n {
-        return false;
-    }
-    at <= len - n
+    n <= len && at <= len - n
 }
 
 // The bytes of s, written from `at` on if there is room for them, and nothing if not; answers the next place.

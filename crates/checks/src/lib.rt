@@ -12,9 +12,7 @@ fn lane_bound(s: Scalar) -> u64
 {
     match s {
         Scalar::Boolean => 2,
-        Scalar::I32 => 0x1_0000_0000,
-        Scalar::U32 => 0x1_0000_0000,
-        Scalar::F32 => 0x1_0000_0000,
+        Scalar::I32 | Scalar::U32 | Scalar::F32 => 0x1_0000_0000,
         Scalar::F16 => 0x1_0000,
     }
 }
@@ -42,18 +40,11 @@ fn none_past(l: &[u64]) -> bool
     requires { length l.now ≡ 16 }
     ensures { result ≡ every (λ x. eqb x 0) (drop 4 l.now) }
 {
-    (l[4] == 0)
-        & (l[5] == 0)
-        & (l[6] == 0)
-        & (l[7] == 0)
-        & (l[8] == 0)
-        & (l[9] == 0)
-        & (l[10] == 0)
-        & (l[11] == 0)
-        & (l[12] == 0)
-        & (l[13] == 0)
-        & (l[14] == 0)
-        & (l[15] == 0)
+    let mut none = true;
+    for x in &l[4..] {
+        none &= *x == 0;
+    }
+    none
 }
 
 // Whether the first n of all 16 lanes are below the bound and the others 0, as a matrix has them.
@@ -61,12 +52,10 @@ fn all_ok(l: &[u64], n: usize, bound: u64) -> bool
     requires { length l.now ≡ 16 }
     ensures { result ≡ every (λ x. ltb x bound) (take n l.now) && every (λ x. eqb x 0) (drop n l.now) }
 {
-    let mut i = 0;
-    while i < 16 {
-        if limit_at(i, n, bound) <= l[i] {
+    for (i, x) in l.iter().enumerate() {
+        if limit_at(i, n, bound) <= *x {
             return false;
         }
-        i += 1;
     }
     true
 }

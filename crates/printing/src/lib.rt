@@ -5,12 +5,6 @@ ghost use Rattle.std.specs.Prelude.{◌≡◌, [], ◌∷◌, ◌+◌, ◌<◌, 
 ghost use Rattle.buffers.specs.Memory.{put};
 ghost use Rattle.printing.specs.Decimal.{digits, places, refused_text, place_text, refused_at};
 
-fn wide(x: u8) -> usize
-    ensures { result ≡ x }
-{
-    x as usize
-}
-
 // A byte at a place; answers the next place.
 pub fn put_byte(out: &mut [u8], at: usize, b: u8) -> usize
     requires { at < length out.old }
@@ -33,11 +27,9 @@ pub fn put_digits(out: &mut [u8], at: usize, n: usize, v: usize) -> usize
     ensures { (result ≡ at + n) × (out.new ≡ put out.old at (digits n v)) }
 {
     let mut rest = v;
-    let mut i = n;
-    while i > 0 {
-        i -= 1;
+    for i in (0..n).rev() {
         out[at + i] = digit_byte(rest % 10);
-        rest = rest / 10;
+        rest /= 10;
     }
     at + n
 }
@@ -62,7 +54,7 @@ pub fn put_refusal(out: &mut [u8], at: usize, refusal: u8) -> usize
     if refusal == 0 {
         return at;
     }
-    let v = wide(refusal);
+    let v = usize::from(refusal);
     let n = places_of(v);
     let e = buffers::put_bytes(out, at, b"refused\t");
     put_digits(out, e, n, v)

@@ -1,5 +1,6 @@
 pub mod Bools
 pub mod Checked
+pub mod Every
 pub mod Few
 pub mod Formed
 pub mod Lanes

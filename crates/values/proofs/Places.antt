@@ -8,6 +8,7 @@ use lib.Dec.{leb, ltb}
 use lib.ListN.{get_or, get_or-eq_default}
 use Rattle.values.specs.Value.{lane_count, is_type, kinds, kind_at, place, same_kind}
 use Rattle.values.proofs.Bools.{both, agree}
+use Rattle.values.specs.contracts.KindPartialEq.TheImpl.{eq-value}
 use Rattle.values.specs.declared.Scalar.TheVariants.{Boolean, I32, U32, F32, F16}
 use Rattle.values.specs.declared.Width.TheVariants.{Single, Half}
 use Rattle.values.specs.declared.Size.TheVariants.{Two, Three, Four}
@@ -83,6 +84,13 @@ passes p (k ∷ l) (suc i) e t = passes p l i e (both (p k) (all p l) t).1
 pub each : (p : Kind → Bool) → all p (Empty ∷ kinds) ≡ true → (k : Kind) → p k ≡ true
 unfolding kind_at
 each p t k = ap p (sym (there k)) ∙ passes p (Empty ∷ kinds) (place k) (both (p Empty) (all p kinds) t).0 t
+
+abbrev alike : Kind → Kind → Bool
+alike k l = cond (eq-value.it k l) (same_kind k l) (not (same_kind k l))
+
+-- what == answers of two types is whether their places are one
+pub equals : (k l : Kind) → eq-value.it k l ≡ same_kind k l
+equals k l = agree (eq-value.it k l) (same_kind k l) (each (alike k) (each (λ m. all (alike m) (Empty ∷ kinds)) refl k) l)
 
 pub lanes_at_most_16 : (k : Kind) → lane_count k ≤ 16
 lanes_at_most_16 k = leb-true (lane_count k) 16 (each (λ l. leb (lane_count l) 16) refl k)

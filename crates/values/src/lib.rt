@@ -7,7 +7,7 @@ ghost use Rattle.std.specs.Prelude.{◌≡◌, cond, ◌*◌, ◌≤◌, ltb};
 ghost use Rattle.values.specs.Value.{size_of, of_width, scalar_of, lane_count, is_type, shaped, place, kind_at, same_kind, empty_value};
 ghost use Rattle.values.specs.Program.{low};
 
-#[derive(Clone, Copy)]
+#[derive(Clone, Copy, PartialEq, Eq)]
 pub enum Scalar {
     Boolean,
     I32,
@@ -16,13 +16,13 @@ pub enum Scalar {
     F16,
 }
 
-#[derive(Clone, Copy)]
+#[derive(Clone, Copy, PartialEq, Eq)]
 pub enum Width {
     Single,
     Half,
 }
 
-#[derive(Clone, Copy)]
+#[derive(Clone, Copy, PartialEq, Eq)]
 pub enum Size {
     Two,
     Three,
@@ -30,7 +30,7 @@ pub enum Size {
 }
 
 // Empty is no type: it is the empty value's.
-#[derive(Clone, Copy)]
+#[derive(Clone, Copy, PartialEq, Eq)]
 pub enum Kind {
     Empty,
     One(Scalar),
@@ -70,8 +70,7 @@ pub fn scalar_of(k: Kind) -> Scalar
 {
     match k {
         Kind::Empty => Scalar::Boolean,
-        Kind::One(s) => s,
-        Kind::Vec(_, s) => s,
+        Kind::One(s) | Kind::Vec(_, s) => s,
         Kind::Mat(_, _, w) => of_width(w),
     }
 }
@@ -79,12 +78,7 @@ pub fn scalar_of(k: Kind) -> Scalar
 fn product(c: Size, r: Size) -> usize
     ensures { (result ≡ size_of c * size_of r) × (result ≤ 16) }
 {
-    let n = size_of(r);
-    match c {
-        Size::Two => 2 * n,
-        Size::Three => 3 * n,
-        Size::Four => 4 * n,
-    }
+    size_of(c) * size_of(r)
 }
 
 // How many lanes the type has.
@@ -102,12 +96,7 @@ pub fn lane_count(k: Kind) -> usize
 pub fn is_type(k: Kind) -> bool
     ensures { result ≡ is_type k }
 {
-    match k {
-        Kind::Empty => false,
-        Kind::One(_) => true,
-        Kind::Vec(_, _) => true,
-        Kind::Mat(_, _, _) => true,
-    }
+    !matches!(k, Kind::Empty)
 }
 
 // The type of that shape with another scalar.
@@ -115,10 +104,9 @@ pub fn shaped_as(t: Scalar, k: Kind) -> Kind
     ensures { result ≡ shaped t k }
 {
     match k {
-        Kind::Empty => Kind::Empty,
         Kind::One(_) => Kind::One(t),
         Kind::Vec(n, _) => Kind::Vec(n, t),
-        Kind::Mat(_, _, _) => Kind::Empty,
+        Kind::Empty | Kind::Mat(_, _, _) => Kind::Empty,
     }
 }
 
@@ -134,31 +122,27 @@ pub fn place_of(k: Kind) -> u64
     }
 }
 
+// Whether two types are one: == is whether their places are.
 pub fn same_kind(k: Kind, l: Kind) -> bool
     ensures { result ≡ same_kind k l }
 {
-    place_of(k) == place_of(l)
+    k == l
 }
 
 // The type of a place.
 pub fn kind_at(n: u64) -> Kind
     ensures { result ≡ kind_at n }
 {
-    if n == 0 {
-        return Kind::Empty;
+    match n {
+        0 => Kind::Empty,
+        1..=5 => parts::one_at(n - 1),
+        6..=20 => parts::vec_at(n - 6),
+        21..=38 => parts::mat_at(n - 21),
+        _ => Kind::Empty,
     }
-    if n < 6 {
-        return parts::one_at(n - 1);
-    }
-    if n < 21 {
-        return parts::vec_at(n - 6);
-    }
-    if n < 39 {
-        return parts::mat_at(n - 21);
-    }
-    Kind::Empty
 }
 
+#[tactic(auto, unfolding(crate::specs::Value::empty_value))]
 pub fn empty() -> Value
     ensures { result ≡ empty_value }
 {

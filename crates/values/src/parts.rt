@@ -7,32 +7,19 @@ use crate::{Kind, Scalar, Size, Width};
 fn scalar_place(s: Scalar) -> u64
     ensures { (result ≡ scalar_place s) × (result ≤ 4) }
 {
-    match s {
-        Scalar::Boolean => 0,
-        Scalar::I32 => 1,
-        Scalar::U32 => 2,
-        Scalar::F32 => 3,
-        Scalar::F16 => 4,
-    }
+    s as u64
 }
 
 fn size_place(s: Size) -> u64
     ensures { (result ≡ size_place s) × (result ≤ 2) }
 {
-    match s {
-        Size::Two => 0,
-        Size::Three => 1,
-        Size::Four => 2,
-    }
+    s as u64
 }
 
 fn width_place(w: Width) -> u64
     ensures { (result ≡ width_place w) × (result ≤ 1) }
 {
-    match w {
-        Width::Single => 0,
-        Width::Half => 1,
-    }
+    w as u64
 }
 
 pub fn one_place(s: Scalar) -> u64
@@ -57,32 +44,24 @@ fn scalar_at(n: u64) -> Scalar
     requires { n < 5 }
     ensures { scalar_place result ≡ n }
 {
-    if n == 0 {
-        return Scalar::Boolean;
+    match n {
+        0 => Scalar::Boolean,
+        1 => Scalar::I32,
+        2 => Scalar::U32,
+        3 => Scalar::F32,
+        _ => Scalar::F16,
     }
-    if n == 1 {
-        return Scalar::I32;
-    }
-    if n == 2 {
-        return Scalar::U32;
-    }
-    if n == 3 {
-        return Scalar::F32;
-    }
-    Scalar::F16
 }
 
 fn size_at(n: u64) -> Size
     requires { n < 3 }
     ensures { size_place result ≡ n }
 {
-    if n == 0 {
-        return Size::Two;
+    match n {
+        0 => Size::Two,
+        1 => Size::Three,
+        _ => Size::Four,
     }
-    if n == 1 {
-        return Size::Three;
-    }
-    Size::Four
 }
 
 fn width_at(n: u64) -> Width

@@ -1,5 +1,4 @@
 -- Both loops keep that no b stands before i; the first passes eight places at once. Assumes nothing.
-use Prim.Native.Nat.{◌-◌}
 use native.Mathlib.Omega.{arith}
 use borrow.Author.Rules.{rules}
 use borrow.Author.Tests.{leb-true, leb-false}

@@ -20,19 +20,19 @@ put_digits-requires c =
     let a = c.args in
     let l = length_refused a.refusal c.if-refusal-eq0.false in
     let b = made a.out.now a.at word (omega (arith, l)) c.put_bytes-e.ensures in
-    omega (arith, l, ap places c.wide-v.ensures, b.0, ap length b.1, put_length a.out.now a.at word (omega (arith, l)))
+    omega (arith, l, ap places c.from-v.ensures, b.0, ap length b.1, put_length a.out.now a.at word (omega (arith, l)))
 
 pub returns : goal.returns
 returns c =
     let a = c.args in
     let h = c.if-refusal-eq0.false in
     let l = length_refused a.refusal h in
-    let v = c.wide-v.ensures in
-    let d : digits c.places_of-n.result c.wide-v.result ≡ digits (places a.refusal) a.refusal
-    = ap (λ (k : ℕ). digits k c.wide-v.result) c.places_of-n.ensures ∙ ap (λ (k : ℕ). digits (places k) k) v in
+    let v = c.from-v.ensures in
+    let d : digits c.places_of-n.result c.from-v.result ≡ digits (places a.refusal) a.refusal
+    = ap (λ (k : ℕ). digits k c.from-v.result) c.places_of-n.ensures ∙ ap (λ (k : ℕ). digits (places k) k) v in
     let b = made a.out.now a.at word (omega (arith, l, c.requires)) c.put_bytes-e.ensures in
     let f = c.put_digits.ensures in (
       omega (arith, l, ap places v),
-      then a.out.now a.at word (digits c.places_of-n.result c.wide-v.result) (omega (arith, l, c.requires)) b.1 b.0 f.1
+      then a.out.now a.at word (digits c.places_of-n.result c.from-v.result) (omega (arith, l, c.requires)) b.1 b.0 f.1
           ∙ ap (put a.out.now a.at) (ap (λ (t : List ℕ). word ++ t) d ∙ sym (refused_some a.refusal h)),
     )

@@ -4,17 +4,17 @@ use native.Mathlib.Omega.{arith}
 use Rattle.values.proofs.Places.{placed, none_past}
 use Rattle.values.proofs.kind_at.Goals as goal
 
-pub returns-then-n-eq0 : goal.returns-then-n-eq0
-returns-then-n-eq0 c = placed (sym c.if-n-eq0.true)
+pub returns-in-0 : goal.returns-in-0
+returns-in-0 c = placed (omega arith)
 
-pub returns-then-n-lt6 : goal.returns-then-n-lt6
-returns-then-n-lt6 c = placed (c.one_at.ensures ∙ omega arith)
+pub returns-in-1-to-5 : goal.returns-in-1-to-5
+returns-in-1-to-5 c = placed (c.one_at.ensures ∙ omega arith)
 
-pub returns-then-n-lt21 : goal.returns-then-n-lt21
-returns-then-n-lt21 c = placed (c.vec_at.ensures ∙ omega arith)
+pub returns-in-6-to-20 : goal.returns-in-6-to-20
+returns-in-6-to-20 c = placed (c.vec_at.ensures ∙ omega arith)
 
-pub returns-then-n-lt39 : goal.returns-then-n-lt39
-returns-then-n-lt39 c = placed (c.mat_at.ensures ∙ omega arith)
+pub returns-in-21-to-38 : goal.returns-in-21-to-38
+returns-in-21-to-38 c = placed (c.mat_at.ensures ∙ omega arith)
 
-pub returns : goal.returns
-returns c = sym (none_past _ c.if-n-lt39.false)
+pub returns-in_default : goal.returns-in_default
+returns-in_default c = sym (none_past _ (omega arith))

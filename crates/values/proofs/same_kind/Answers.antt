@@ -1,5 +1,7 @@
--- Both places are known, and equal numbers are compared. Assumes nothing.
+-- What == answers of two types. Assumes nothing.
+use mathlib.Core.Path.{◌∙◌}
+use Rattle.values.proofs.Places.{equals}
 use Rattle.values.proofs.same_kind.Goals as goal
 
 pub returns : goal.returns
-returns c = rw (c.place_of.ensures, c.place_of-2.ensures)
+returns c = c.eq.ensures ∙ equals _ _
