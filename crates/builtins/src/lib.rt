@@ -77,12 +77,7 @@ fn put_answer(out: &mut [u64], a: Outcome) -> Result<(), Refusal>
 }
 
 // Folds a call of words into the words of its answer, in the reading and by the engine that the caller chooses.
-pub fn fold_in(
-    reading: Reading,
-    engine: Engine,
-    w: &[u64],
-    out: &mut [u64],
-) -> Result<(), Refusal>
+pub fn fold_in(reading: Reading, engine: Engine, w: &[u64], out: &mut [u64]) -> Result<(), Refusal>
     ensures { (told result ≡ refusal_in reading (length out.old) w.now)
         × (out.new ≡ put out.old 0 (written_in reading (length out.old) w.now)) }
 {
