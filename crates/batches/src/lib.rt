@@ -2,32 +2,37 @@
 #![tactic(auto)]
 
 ghost use Rattle.std.specs.Prelude.{◌≡◌, length};
+ghost use Rattle.refusals.specs.Refusals.{told};
 ghost use Rattle.materials.specs.Materials.{refusal_all, results_of};
 
 use builtins::Answer;
 use calls::Call;
 use engines::Engine;
 use readings::Reading;
+use refusals::Refusal;
 
-// Folds every call, in the reading and by the engine that the caller chooses once for all. Answers 8, and leaves every result as found, where there are fewer results than calls, and else 0.
-pub fn fold_all_in(reading: Reading, engine: Engine, calls: &[Call], results: &mut [Answer]) -> u8
-    ensures { (result ≡ refusal_all (length calls.now) (length results.old))
+// Folds every call, in the reading and by the engine that the caller chooses once for all. Where there are fewer results than calls it leaves every one as found.
+pub fn fold_all_in(
+    reading: Reading,
+    engine: Engine,
+    calls: &[Call],
+    results: &mut [Answer],
+) -> Result<(), Refusal>
+    ensures { (told result ≡ refusal_all (length calls.now) (length results.old))
         × (results.new ≡ results_of reading calls.now results.old) }
 {
     if results.len() < calls.len() {
-        return 8;
+        return Err(Refusal::NoRoom);
     }
-    let mut k = 0;
-    while k < calls.len() {
-        results[k] = records::fold_in(reading, engine, calls[k]);
-        k += 1;
+    for (k, call) in calls.iter().enumerate() {
+        results[k] = records::fold_in(reading, engine, *call);
     }
-    0
+    Ok(())
 }
 
 // In the crate's reading, by arithmetic.
-pub fn fold_all(calls: &[Call], results: &mut [Answer]) -> u8
-    ensures { (result ≡ refusal_all (length calls.now) (length results.old))
+pub fn fold_all(calls: &[Call], results: &mut [Answer]) -> Result<(), Refusal>
+    ensures { (told result ≡ refusal_all (length calls.now) (length results.old))
         × (results.new ≡ results_of Reading.Crate calls.now results.old) }
 {
     fold_all_in(Reading::Crate, Engine::Arithmetic, calls, results)

@@ -4,6 +4,7 @@
 mod matrix;
 
 ghost use Rattle.std.specs.Prelude.{◌≡◌, [], ◌∷◌, ◌≤◌, length, take};
+ghost use Rattle.refusals.specs.Refusals.{told};
 ghost use Rattle.values.specs.Value.{lane_count, kind_at, value};
 ghost use Rattle.buffers.specs.Memory.{put};
 ghost use Rattle.words.specs.Words.{words_of};
@@ -15,6 +16,7 @@ ghost use Rattle.builtins.specs.Words.{refusal_in, written_in};
 use arms::Outcome;
 use engines::Engine;
 use readings::Reading;
+use refusals::Refusal;
 use values::Value;
 
 // `refusal` is 01's number, 0 where the call is answered. Only frexp has a second value, and only pack2x16float a loss, the number of Q-7.
@@ -31,11 +33,11 @@ const LAST_VECTOR: u64 = 20;
 
 // ---- calls
 
-// The refusal of a call of words, asked for by a slice of its own: a slice that is handed on as it stands is kept in memory on every way, and read from there.
-fn refusal(w: &[u64]) -> u8
-    ensures { result ≡ refusal_of (call_of w.now) }
+// What refuses a call of words, asked for by a slice of its own: a slice that is handed on as it stands is kept in memory on every way, and read from there.
+fn judge(w: &[u64]) -> Result<(), Refusal>
+    ensures { told result ≡ refusal_of (call_of w.now) }
 {
-    judging::refusal_of(&w[0..])
+    judging::judge(&w[0..])
 }
 
 // An answer's second value: most have none.
@@ -59,24 +61,24 @@ fn put_loss(out: &mut [u64], loss: u8)
 }
 
 // An answer's two values and its loss, where there is room for them.
-fn put_answer(out: &mut [u64], a: Outcome) -> u8
+fn put_answer(out: &mut [u64], a: Outcome) -> Result<(), Refusal>
     requires { (a.first ≤ 20) × (a.second ≤ 20) }
-    ensures { Told (answer_in a) out.old result out.new }
+    ensures { Told (answer_in a) out.old (told result) out.new }
 {
     if out.len() < 35 {
-        return 8;
+        return Err(Refusal::NoRoom);
     }
     let x = a.lanes;
     let y = a.exponents;
     words::put_lanes(out, 0, a.first, x);
     put_second(out, a.second, y);
     put_loss(out, a.loss);
-    0
+    Ok(())
 }
 
-// Folds a call of words into the words of its answer, in the reading and by the engine that the caller chooses. Answers the refusal's number, 0 where there is none.
-pub fn fold_in(reading: Reading, engine: Engine, w: &[u64], out: &mut [u64]) -> u8
-    ensures { (result ≡ refusal_in reading (length out.old) w.now)
+// Folds a call of words into the words of its answer, in the reading and by the engine that the caller chooses.
+pub fn fold_in(reading: Reading, engine: Engine, w: &[u64], out: &mut [u64]) -> Result<(), Refusal>
+    ensures { (told result ≡ refusal_in reading (length out.old) w.now)
         × (out.new ≡ put out.old 0 (written_in reading (length out.old) w.now)) }
 {
     let p = words::place_at(w, 3);
@@ -84,10 +86,10 @@ pub fn fold_in(reading: Reading, engine: Engine, w: &[u64], out: &mut [u64]) -> 
         return matrix::fold(reading, w, p, out);
     }
     if p == 0 {
-        return refusal(w);
+        return judge(w);
     }
     if !words::formed_as(w, 3, p) {
-        return refusal(w);
+        return judge(w);
     }
     let i = w[0];
     let a = arms::arm(
@@ -99,14 +101,14 @@ pub fn fold_in(reading: Reading, engine: Engine, w: &[u64], out: &mut [u64]) -> 
         words::cut_at(w, 3),
     );
     if !a.passes {
-        return refusal(w);
+        return judge(w);
     }
     put_answer(out, a)
 }
 
 // In the crate's reading, by arithmetic.
-pub fn fold(w: &[u64], out: &mut [u64]) -> u8
-    ensures { (result ≡ refusal_in Reading.Crate (length out.old) w.now)
+pub fn fold(w: &[u64], out: &mut [u64]) -> Result<(), Refusal>
+    ensures { (told result ≡ refusal_in Reading.Crate (length out.old) w.now)
         × (out.new ≡ put out.old 0 (written_in Reading.Crate (length out.old) w.now)) }
 {
     fold_in(Reading::Crate, Engine::Arithmetic, w, out)

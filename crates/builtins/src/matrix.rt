@@ -1,5 +1,6 @@
 // Matrices, whole: only select and transpose take them, alike in each reading. A call is judged first; select copies a matrix, transpose turns an array of its columns.
 ghost use Rattle.std.specs.Prelude.{◌≡◌, cond, ◌≤◌, ◌<◌, eqb, length, take, drop, get_or};
+ghost use Rattle.refusals.specs.Refusals.{told};
 ghost use Rattle.values.specs.Value.{place};
 ghost use Rattle.buffers.specs.Memory.{put};
 ghost use Rattle.words.specs.Words.{value_at, words_of};
@@ -10,6 +11,7 @@ ghost use Rattle.builtins.specs.Fold.{fold_in};
 ghost use Rattle.builtins.specs.Words.{refusal_in, written_in};
 
 use readings::Reading;
+use refusals::Refusal;
 
 // One of the two values, whole: a matrix goes with a scalar condition alone.
 fn put_selected(w: &[u64], out: &mut [u64])
@@ -39,20 +41,17 @@ fn put_first(reading: Reading, w: &[u64], p: u64, out: &mut [u64])
     }
 }
 
-pub fn fold(reading: Reading, w: &[u64], p: u64, out: &mut [u64]) -> u8
+pub fn fold(reading: Reading, w: &[u64], p: u64, out: &mut [u64]) -> Result<(), Refusal>
     requires { (p ≡ place (value_at w.now 3).kind) × (20 < p) × (p < 39) }
-    ensures { (result ≡ refusal_in reading (length out.old) w.now)
+    ensures { (told result ≡ refusal_in reading (length out.old) w.now)
         × (out.new ≡ put out.old 0 (written_in reading (length out.old) w.now)) }
 {
-    let n = crate::refusal(w);
-    if n != 0 {
-        return n;
-    }
+    crate::judge(w)?;
     if out.len() < 35 {
-        return 8;
+        return Err(Refusal::NoRoom);
     }
     put_first(reading, w, p, out);
     words::clear(out, 17);
     crate::put_loss(out, 0);
-    0
+    Ok(())
 }

@@ -1,22 +1,39 @@
 // The first refusal that applies to a call of words, by the shape of its row: values are judged where they stand.
 ghost use Rattle.std.specs.Prelude.{◌≡◌, true, cond};
+ghost use Rattle.refusals.specs.Refusals.{number, told};
 ghost use Rattle.calls.specs.Refuse.{first_of};
 ghost use Rattle.calls.specs.Program.{judged_in};
 
 use calls::table::Shape;
-use choosing::choose;
+use refusals::Refusal;
 
-fn first_of(counted: bool, formed: bool, alone: bool, together: bool, sized: bool) -> u8
-    ensures { result ≡ first_of true counted formed alone together sized }
+fn unless(holds: bool, refusal: Refusal) -> Result<(), Refusal>
+    ensures { told result ≡ cond holds 0 (number refusal) }
 {
-    let last = choose(!together, 5, choose(!sized, 6, 0));
-    choose(!counted, 2, choose(!formed, 3, choose(!alone, 4, last)))
+    if holds { Ok(()) } else { Err(refusal) }
+}
+
+// In the order of the refusals.
+fn first_of(
+    counted: bool,
+    formed: bool,
+    alone: bool,
+    together: bool,
+    sized: bool,
+) -> Result<(), Refusal>
+    ensures { told result ≡ first_of true counted formed alone together sized }
+{
+    unless(counted, Refusal::Count)?;
+    unless(formed, Refusal::IllFormed)?;
+    unless(alone, Refusal::NotTaken)?;
+    unless(together, Refusal::NotTogether)?;
+    unless(sized, Refusal::ByteSizes)
 }
 
 // ---- by the shape of the row: of n arguments
 
-fn one_value(w: &[u64], n: u64, set: u64) -> u8
-    ensures { result ≡ judged_in Shape.OneValue set n w.now }
+fn one_value(w: &[u64], n: u64, set: u64) -> Result<(), Refusal>
+    ensures { told result ≡ judged_in Shape.OneValue set n w.now }
 {
     let p = words::place_at(w, 3);
     first_of(
@@ -28,8 +45,8 @@ fn one_value(w: &[u64], n: u64, set: u64) -> u8
     )
 }
 
-fn two_alike(w: &[u64], n: u64, set: u64) -> u8
-    ensures { result ≡ judged_in Shape.TwoAlike set n w.now }
+fn two_alike(w: &[u64], n: u64, set: u64) -> Result<(), Refusal>
+    ensures { told result ≡ judged_in Shape.TwoAlike set n w.now }
 {
     let p = words::place_at(w, 3);
     let q = words::place_at(w, 20);
@@ -43,8 +60,8 @@ fn two_alike(w: &[u64], n: u64, set: u64) -> u8
     )
 }
 
-fn three_alike(w: &[u64], n: u64, set: u64) -> u8
-    ensures { result ≡ judged_in Shape.ThreeAlike set n w.now }
+fn three_alike(w: &[u64], n: u64, set: u64) -> Result<(), Refusal>
+    ensures { told result ≡ judged_in Shape.ThreeAlike set n w.now }
 {
     let p = words::place_at(w, 3);
     let q = words::place_at(w, 20);
@@ -54,8 +71,8 @@ fn three_alike(w: &[u64], n: u64, set: u64) -> u8
     first_of(n == 3, formed, alone, (p == q) & (p == r), true)
 }
 
-fn selecting(w: &[u64], n: u64, set: u64) -> u8
-    ensures { result ≡ judged_in Shape.Selecting set n w.now }
+fn selecting(w: &[u64], n: u64, set: u64) -> Result<(), Refusal>
+    ensures { told result ≡ judged_in Shape.Selecting set n w.now }
 {
     let p = words::place_at(w, 3);
     let q = words::place_at(w, 20);
@@ -65,8 +82,8 @@ fn selecting(w: &[u64], n: u64, set: u64) -> u8
     first_of(n == 3, formed, places::among(set, r), together, true)
 }
 
-fn scaling(w: &[u64], n: u64, set: u64) -> u8
-    ensures { result ≡ judged_in Shape.Scaling set n w.now }
+fn scaling(w: &[u64], n: u64, set: u64) -> Result<(), Refusal>
+    ensures { told result ≡ judged_in Shape.Scaling set n w.now }
 {
     let p = words::place_at(w, 3);
     let q = words::place_at(w, 20);
@@ -75,8 +92,8 @@ fn scaling(w: &[u64], n: u64, set: u64) -> u8
     first_of(n == 2, formed, alone, q == places::integers_at(p), true)
 }
 
-fn casting(w: &[u64], n: u64, set: u64) -> u8
-    ensures { result ≡ judged_in Shape.Casting set n w.now }
+fn casting(w: &[u64], n: u64, set: u64) -> Result<(), Refusal>
+    ensures { told result ≡ judged_in Shape.Casting set n w.now }
 {
     let t = places::known(words::word(w, 2));
     let p = words::place_at(w, 3);
@@ -91,11 +108,11 @@ fn casting(w: &[u64], n: u64, set: u64) -> u8
     )
 }
 
-pub fn judge(w: &[u64], shape: Shape, n: u64, set: u64) -> u8
-    ensures { result ≡ judged_in shape set n w.now }
+pub fn judge(w: &[u64], shape: Shape, n: u64, set: u64) -> Result<(), Refusal>
+    ensures { told result ≡ judged_in shape set n w.now }
 {
     match shape {
-        Shape::Unlisted => 1,
+        Shape::Unlisted => Err(Refusal::NotInTable),
         Shape::OneValue => one_value(w, n, set),
         Shape::TwoAlike => two_alike(w, n, set),
         Shape::ThreeAlike => three_alike(w, n, set),

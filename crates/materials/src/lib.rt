@@ -2,6 +2,7 @@
 #![tactic(auto)]
 
 ghost use Rattle.std.specs.Prelude.{◌≡◌, cond, [], ◌∷◌, ◌+◌, ◌≤◌, ◌<◌, ◌-◌, min, eqb, length, replicate};
+ghost use Rattle.refusals.specs.Refusals.{told};
 ghost use Rattle.buffers.specs.Memory.{put};
 ghost use Rattle.calls.specs.Words.{call_of};
 ghost use Rattle.builtins.specs.Fold.{fold_in};
@@ -9,6 +10,7 @@ ghost use Rattle.materials.specs.Words.{call_count, answer_words, refusal_of_all
 
 use engines::Engine;
 use readings::Reading;
+use refusals::Refusal;
 
 // A refused call hands up two empty values and no loss.
 fn clear_refused(answer: &mut [u64], refusal: u8)
@@ -36,7 +38,7 @@ fn fold_one(reading: Reading, engine: Engine, call: &[u64], answer: &mut [u64])
     requires { length answer.old ≡ 36 }
     ensures { answer.new ≡ answer_words (fold_in reading (call_of call.now)) }
 {
-    let refusal = builtins::fold_in(reading, engine, call, answer);
+    let refusal = refusals::told(builtins::fold_in(reading, engine, call, answer));
     clear_refused(answer, refusal);
     put_refusal(answer, refusal);
 }
@@ -59,14 +61,19 @@ fn call_end(i: usize, words: usize) -> usize
     if words - i < 54 { words } else { i + 54 }
 }
 
-// Folds every call, in the reading and by the engine that the caller chooses once for all. Answers 8, and writes nothing, where there is no room for all answers, and else 0.
-pub fn fold_words(reading: Reading, engine: Engine, calls: &[u64], answers: &mut [u64]) -> u8
-    ensures { (result ≡ refusal_of_all (length answers.old) calls.now)
+// Folds every call, in the reading and by the engine that the caller chooses once for all. Where there is no room for all answers it writes nothing.
+pub fn fold_words(
+    reading: Reading,
+    engine: Engine,
+    calls: &[u64],
+    answers: &mut [u64],
+) -> Result<(), Refusal>
+    ensures { (told result ≡ refusal_of_all (length answers.old) calls.now)
         × (answers.new ≡ put answers.old 0 (written_of_all reading (length answers.old) calls.now)) }
 {
     let n = call_count(calls.len());
     if answers.len() < 36 * n {
-        return 8;
+        return Err(Refusal::NoRoom);
     }
     let mut k = 0;
     while k < n {
@@ -76,5 +83,5 @@ pub fn fold_words(reading: Reading, engine: Engine, calls: &[u64], answers: &mut
         fold_one(reading, engine, &calls[i..end], &mut answers[at..at + 36]);
         k += 1;
     }
-    0
+    Ok(())
 }

@@ -51,9 +51,9 @@ fn fold_words(
     ensures { result ≡ fold_in reading call }
 {
     put_call(w, call);
-    let refusal = builtins::fold_in(reading, engine, w, out);
+    let refused = builtins::fold_in(reading, engine, w, out);
     Answer {
-        refusal: refusal,
+        refusal: refusals::told(refused),
         first: words::value_at(out, 0),
         second: words::value_at(out, 17),
         loss: loss_in(out),

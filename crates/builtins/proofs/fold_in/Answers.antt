@@ -58,13 +58,13 @@ returns-then-p-eq0 c =
     let a = c.args in
     let e = sym c.place_at-p.ensures.0 ∙ c.if-p-eq0.true in
     let t = told_refused a.reading a.out.now a.w.now (eqb-false _ 0 (unformed a.w.now (no_type (value_at a.w.now 3) e))) in
-    (c.refusal.ensures ∙ t.0, t.1)
+    (c.judge.ensures ∙ t.0, t.1)
 
 pub returns-then-not-formed_as : goal.returns-then-not-formed_as
 returns-then-not-formed_as c =
     let a = c.args in
     let t = told_refused a.reading a.out.now a.w.now (eqb-false _ 0 (unformed a.w.now (sym (tested (goal.at.returns-then-not-formed_as c).After-formed_as) ∙ c.if-not-formed_as.true))) in
-    (c.refusal-then-not-formed_as.ensures ∙ t.0, t.1)
+    (c.judge-then-not-formed_as.ensures ∙ t.0, t.1)
 
 pub bounds-w-0 : goal.bounds-w-0
 bounds-w-0 c = let h = there (goal.at.bounds-w-0 c).Else-not-formed_as in search rules
@@ -76,7 +76,7 @@ pub returns-then-not-a : goal.returns-then-not-a
 returns-then-not-a c =
     let a = c.args in
     let t = told_refused a.reading a.out.now a.w.now ((worked_out (goal.at.returns-then-not-a c).After-arm-a (first (goal.at.returns-then-not-a c).Else-not-formed_as)).refused c.if-not-a.true) in
-    (c.refusal-then-not-a.ensures ∙ t.0, t.1)
+    (c.judge-then-not-a.ensures ∙ t.0, t.1)
 
 pub put_answer-requires : goal.put_answer-requires
 put_answer-requires c = let h = (worked_out (goal.at.put_answer-requires c).After-arm-a (first (goal.at.put_answer-requires c).Else-not-formed_as)).places c.if-not-a.false in (h.first, h.second)

@@ -2,6 +2,8 @@
 use mathlib.Core.Logic.{inl, inr}
 use mathlib.Core.Path.{◌≡◌, refl, sym, ◌∙◌}
 use borrow.Author.Tests.{eqb-false}
+use Rattle.refusals.specs.Refusals.{number, told}
+use Rattle.refusals.proofs.Refused.{told_some}
 use Rattle.values.specs.Value.{well_formed}
 use Rattle.values.proofs.Bools.{either}
 use Rattle.words.specs.Words.{value_at}
@@ -14,14 +16,14 @@ use Rattle.builtins.proofs.Folded.{told_refused, told_short, told_one, told_answ
 use Rattle.builtins.proofs.Matrices.{OneValue, one_value}
 use borrow.Author.Rules.{rules}
 use Rattle.builtins.proofs.matrix.fold.Goals as goal
-use Rattle.builtins.proofs.matrix.fold.Goals.{Else-n-ne0}
+use Rattle.builtins.proofs.matrix.fold.Goals.{In_ok-judge}
 
--- once the refusal is tested
-unrefused : (c : Else-n-ne0) → refusal_of (call_of c.args.w.now) ≡ 0
-unrefused c = sym c.refusal-n.ensures ∙ search rules
+-- once the call is judged
+unrefused : (c : In_ok-judge) → refusal_of (call_of c.args.w.now) ≡ 0
+unrefused c = sym c.in_ok-judge.ensures
 
 -- the first value is then well formed
-first : (c : Else-n-ne0) → FirstMatrix c.args.w.now c.args.p
+first : (c : In_ok-judge) → FirstMatrix c.args.w.now c.args.p
 first c =
     let w = c.args.w.now in
     record {
@@ -35,25 +37,26 @@ first c =
       within = c.requires.2;
     }
 
-one : (c : Else-n-ne0) → OneValue (fold_in c.args.reading (call_of c.args.w.now))
+one : (c : In_ok-judge) → OneValue (fold_in c.args.reading (call_of c.args.w.now))
 one c = one_value c.args.reading c.args.w.now c.args.p (first c) (unrefused c)
 
-pub returns-then-n-ne0 : goal.returns-then-n-ne0
-returns-then-n-ne0 c =
+pub returns-in_err-judge : goal.returns-in_err-judge
+returns-in_err-judge c =
     let a = c.args in
-    let e = c.refusal-n.ensures in
-    let t = told_refused a.reading a.out.now a.w.now (λ z. c.if-n-ne0.true (e ∙ z)) in
-    (e ∙ t.0, t.1)
+    let e = c.in_err-judge.ensures in
+    let t = told_refused a.reading a.out.now a.w.now (λ z. told_some _ (e ∙ z)) in
+    let same : told c.from_residual.result ≡ number c.in_err-judge.field-0.0 = search rules in
+    (same ∙ e ∙ t.0, t.1)
 
 pub returns-then-out-lt35 : goal.returns-then-out-lt35
-returns-then-out-lt35 c = let a = c.args in told_answer a.reading a.out.now a.w.now refl (one (goal.at.returns-then-out-lt35 c).Else-n-ne0).refusal (told_short (fold_in a.reading (call_of a.w.now)) a.out.now c.if-out-lt35.true)
+returns-then-out-lt35 c = let a = c.args in told_answer a.reading a.out.now a.w.now refl (one (goal.at.returns-then-out-lt35 c).In_ok-judge).refusal (told_short (fold_in a.reading (call_of a.w.now)) a.out.now c.if-out-lt35.true)
 
 pub put_first-requires : goal.put_first-requires
-put_first-requires c = (first (goal.at.put_first-requires c).Else-n-ne0, search rules, unrefused (goal.at.put_first-requires c).Else-n-ne0)
+put_first-requires c = (first (goal.at.put_first-requires c).In_ok-judge, search rules, unrefused (goal.at.put_first-requires c).In_ok-judge)
 
 pub returns : goal.returns
 returns c =
     let a = c.args in
-    let o = one (goal.at.returns c).Else-n-ne0 in
+    let o = one (goal.at.returns c).In_ok-judge in
     told_answer a.reading a.out.now a.w.now refl o.refusal
     (told_one (fold_in a.reading (call_of a.w.now)) a.out.now c.if-out-lt35.false o.sixteen o.second o.loss c.put_first.ensures c.clear.ensures c.put_loss.ensures)

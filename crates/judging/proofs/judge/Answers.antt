@@ -3,7 +3,7 @@ use mathlib.Core.Path.{ap, ◌∙◌}
 use Rattle.calls.specs.Table.{takes}
 use Rattle.calls.specs.Program.{shape_of, types_of}
 use Rattle.calls.proofs.Shaped.{right}
-use Rattle.judging.proofs.refusal_of.Goals as goal
+use Rattle.judging.proofs.judge.Goals as goal
 
 pub returns : goal.returns
 returns c =
