@@ -14,9 +14,6 @@ use Rattle.numeric.specs.Parts.{parts, joined}
 use Rattle.exponent.specs.Exponent.{fraction_lane, exponent_lane, ldexp_lane}
 use Rattle.rounding.specs.declared.Way.TheVariants as To
 use Rattle.rounding.specs.Lanes.{whole_lane, fract_lane}
-use Rattle.calls.specs.declared.table.Shape.{Shape}
-use Rattle.calls.specs.Table.{takes}
-use Rattle.calls.specs.Program.{types_of, judged_in}
 use Rattle.calls.specs.declared.Builtin.{Builtin}
 use Rattle.calls.specs.declared.Builtin.TheVariants.{All, Any, Select, Abs, Sign, CountLeadingZeros, CountOneBits, CountTrailingZeros, Min, Max, Clamp, Saturate, Step, Cross, Dot, Transpose, Frexp, Ldexp, Bitcast, Pack4x8snorm, Pack4x8unorm, Pack4xI8, Pack4xI8Clamp, Pack4xU8, Pack4xU8Clamp, Pack2x16snorm, Pack2x16unorm, Pack2x16float, Unpack4x8snorm, Unpack4x8unorm, Unpack4xI8, Unpack4xU8, Unpack2x16snorm, Unpack2x16unorm, Unpack2x16float, Floor, Ceil, Trunc, Round, Fract, Unknown}
 use Rattle.packing.specs.declared.Coding8.TheVariants as Of8
@@ -26,10 +23,6 @@ use Rattle.packing.specs.Program.{code8_of, lane8_of, code16_of, loss16_of, lane
 use Rattle.arms.specs.declared.Outcome.{Outcome}
 use Rattle.moves.specs.Moves.{select_lane}
 use Rattle.moves.specs.Program.{recast}
-
--- whether a call of words passes the test of the shape h, over the types of b's row
-abbrev pub passes : Shape → Builtin → List ℕ → Bool
-passes h b w = eqb (judged_in h (types_of (takes b)) (get_or w 1 0) w) 0
 
 abbrev pub cut_of : Value → List ℕ
 cut_of v = four low v.lanes

@@ -1,23 +1,27 @@
 // What each builtin gives for a call whose first value is a scalar or a vector: its arm tests the call by the shape of its row, and works on four lanes. The lanes are the crates' below.
 #![tactic(auto)]
 
-mod call;
+mod bitcast;
+mod logical;
+mod numbers;
+mod order;
+mod pack;
+mod powers;
+mod vectors;
+mod wholes;
 
-ghost use Rattle.std.specs.Prelude.{◌≡◌, ◌≤◌, eqb, length, take, get_or};
-ghost use Rattle.values.specs.Value.{empty_value, flag, every};
+ghost use Rattle.std.specs.Prelude.{◌≡◌, ◌≤◌, eqb, length, get_or};
 ghost use Rattle.words.specs.Words.{value_at};
 ghost use Rattle.calls.specs.Table.{takes};
 ghost use Rattle.calls.specs.Program.{shape_of, types_of, judged_in, First};
-ghost use Rattle.arms.specs.Program.{is_half, passes, given, given_one, given_two, given_word, outcome};
+ghost use Rattle.arms.specs.Program.{given, given_one, given_two, given_word, outcome};
 
-use call::Call;
-use calls::Builtin;
-use calls::table::Shape;
+use calls::{Builtin, types_of};
 use engines::Engine;
-use packing::{Coding8, Coding16, PackedWord};
+use judging::tests::one_value;
+use packing::{Coding8, Coding16};
 use readings::Reading;
 use rounding::Way;
-use values::{Kind, Scalar};
 
 // Places of types that arms answer with.
 const BOOL: u64 = 1;
@@ -78,49 +82,17 @@ fn given_two(ok: bool, p: u64, x: [u32; 4], q: u64, y: [u32; 4]) -> Outcome
 }
 
 // A word, and what was lost.
-fn given_word(ok: bool, packed: PackedWord) -> Outcome
-    ensures { result ≡ given_word ok packed.word packed.loss }
+fn given_word(ok: bool, x: u32, loss: u8) -> Outcome
+    ensures { result ≡ given_word ok x loss }
 {
     Outcome {
         passes: ok,
         first: U32,
-        lanes: [packed.word, 0, 0, 0],
+        lanes: [x, 0, 0, 0],
         second: 0,
         exponents: [0; 4],
-        loss: packed.loss,
+        loss: loss,
     }
-}
-
-// Whether each of the first n lanes is v.
-fn each_is(n: usize, x: [u32; 4], v: u32) -> bool
-    ensures { result ≡ every (λ y. eqb y v) (take n x) }
-{
-    ((x[0] == v) | (n < 1))
-        & ((x[1] == v) | (n < 2))
-        & ((x[2] == v) | (n < 3))
-        & ((x[3] == v) | (n < 4))
-}
-
-fn flag_of(b: bool) -> u32
-    ensures { result ≡ flag b }
-{
-    b as u32
-}
-
-fn is_half(s: Scalar) -> bool
-    ensures { result ≡ is_half s }
-{
-    matches!(s, Scalar::F16)
-}
-
-// Of four lanes, by the widths of both types' lanes.
-fn bitcast(call: &Call) -> Outcome
-    ensures { result ≡ outcome Reading.Crate Builtin.Bitcast (passes Shape.Casting Builtin.Bitcast call.now.w.now) (get_or call.now.w.now 2 0) call.now.p call.now.x empty_value empty_value }
-{
-    let t = places::known(call.w[2]);
-    let from = is_half(call.scalar());
-    let to = is_half(places::scalar_at(t));
-    given(call.casting(), t, moves::recast(from, to, call.x))
 }
 
 // The arm of each builtin. The one jump comes first; behind it each arm tests the call by the shape of its row and by the types of the row, a constant there.
@@ -136,191 +108,199 @@ pub fn arm(
     ensures { result ≡ outcome reading which (eqb (judged_in (shape_of (takes which)) (types_of (takes which)) (get_or w.now 1 0) w.now) 0)
         (get_or w.now 2 0) p x (value_at w.now 20) (value_at w.now 37) }
 {
-    let call = Call { w, p, x };
+    let n = w[1];
     match which {
-        Builtin::All => given_one(
-            call.one_value(Builtin::All),
-            BOOL,
-            flag_of(each_is(call.count(), x, 1)),
-        ),
-        Builtin::Any => given_one(
-            call.one_value(Builtin::Any),
-            BOOL,
-            flag_of(!each_is(call.count(), x, 0)),
-        ),
-        Builtin::Select => given(
-            call.selecting(),
+        Builtin::All => logical::all(w, n, p, types_of(Builtin::All), x),
+        Builtin::Any => logical::any(w, n, p, types_of(Builtin::Any), x),
+        Builtin::Select => logical::select(w, n, p, types_of(Builtin::Select), x),
+        Builtin::Abs => numbers::abs(w, n, p, types_of(Builtin::Abs), x),
+        Builtin::Sign => numbers::sign(w, n, p, types_of(Builtin::Sign), x),
+        Builtin::CountLeadingZeros => numbers::count_leading_zeros(
+            w,
+            n,
             p,
-            moves::select_four(x, call.second(), call.condition()),
+            types_of(Builtin::CountLeadingZeros),
+            x,
         ),
-        Builtin::Abs => given(
-            call.one_value(Builtin::Abs),
+        Builtin::CountOneBits => numbers::count_one_bits(
+            w,
+            n,
             p,
-            numeric::abs(call.scalar(), x),
+            types_of(Builtin::CountOneBits),
+            x,
         ),
-        Builtin::Sign => given(
-            call.one_value(Builtin::Sign),
+        Builtin::CountTrailingZeros => numbers::count_trailing_zeros(
+            w,
+            n,
             p,
-            numeric::sign(call.scalar(), x),
+            types_of(Builtin::CountTrailingZeros),
+            x,
         ),
-        Builtin::CountLeadingZeros => given(
-            call.one_value(Builtin::CountLeadingZeros),
+        Builtin::Min => order::min(w, n, p, types_of(Builtin::Min), x),
+        Builtin::Max => order::max(w, n, p, types_of(Builtin::Max), x),
+        Builtin::Clamp => order::clamp(w, n, p, types_of(Builtin::Clamp), x),
+        Builtin::Saturate => order::saturate(w, n, p, types_of(Builtin::Saturate), x),
+        Builtin::Step => order::step(w, n, p, types_of(Builtin::Step), x),
+        Builtin::Cross => vectors::cross(w, n, p, types_of(Builtin::Cross), x),
+        Builtin::Dot => vectors::dot(w, n, p, types_of(Builtin::Dot), x),
+        Builtin::Transpose => given(one_value(w, n, p, types_of(Builtin::Transpose)), p, x),
+        Builtin::Frexp => powers::frexp(w, n, p, types_of(Builtin::Frexp), x),
+        Builtin::Ldexp => powers::ldexp(w, n, p, types_of(Builtin::Ldexp), x),
+        Builtin::Bitcast => bitcast::bitcast(w, n, p, types_of(Builtin::Bitcast), x),
+        Builtin::Pack4x8snorm => pack::pack8(
+            reading,
+            engine,
+            w,
+            n,
             p,
-            numeric::count_leading_zeros(x),
+            types_of(Builtin::Pack4x8snorm),
+            Coding8::Snorm,
+            x,
         ),
-        Builtin::CountOneBits => given(
-            call.one_value(Builtin::CountOneBits),
+        Builtin::Pack4x8unorm => pack::pack8(
+            reading,
+            engine,
+            w,
+            n,
             p,
-            numeric::count_one_bits(x),
+            types_of(Builtin::Pack4x8unorm),
+            Coding8::Unorm,
+            x,
         ),
-        Builtin::CountTrailingZeros => given(
-            call.one_value(Builtin::CountTrailingZeros),
+        Builtin::Pack4xI8 => pack::pack8(
+            reading,
+            engine,
+            w,
+            n,
             p,
-            numeric::count_trailing_zeros(x),
+            types_of(Builtin::Pack4xI8),
+            Coding8::Signed,
+            x,
         ),
-        Builtin::Min => given(
-            call.two_alike(Builtin::Min),
+        Builtin::Pack4xI8Clamp => pack::pack_clamped(
+            reading,
+            w,
+            n,
             p,
-            limits::min(call.scalar(), x, call.second()),
+            types_of(Builtin::Pack4xI8Clamp),
+            x,
         ),
-        Builtin::Max => given(
-            call.two_alike(Builtin::Max),
+        Builtin::Pack4xU8 => pack::pack8(
+            reading,
+            engine,
+            w,
+            n,
             p,
-            limits::max(call.scalar(), x, call.second()),
+            types_of(Builtin::Pack4xU8),
+            Coding8::Unsigned,
+            x,
         ),
-        Builtin::Clamp => given(
-            call.three_alike(Builtin::Clamp),
+        Builtin::Pack4xU8Clamp => pack::pack8(
+            reading,
+            engine,
+            w,
+            n,
             p,
-            limits::clamp(call.scalar(), x, call.second(), call.third()),
+            types_of(Builtin::Pack4xU8Clamp),
+            Coding8::ClampedUnsigned,
+            x,
         ),
-        Builtin::Saturate => given(call.one_value(Builtin::Saturate), p, limits::saturate(x)),
-        Builtin::Step => given(
-            call.two_alike(Builtin::Step),
+        Builtin::Pack2x16snorm => pack::pack16(
+            reading,
+            w,
+            n,
             p,
-            limits::step(call.scalar(), x, call.second()),
+            types_of(Builtin::Pack2x16snorm),
+            Coding16::Snorm,
+            x,
         ),
-        Builtin::Cross => given(
-            call.two_alike(Builtin::Cross),
+        Builtin::Pack2x16unorm => pack::pack16(
+            reading,
+            w,
+            n,
             p,
-            products::cross(x, call.second()),
+            types_of(Builtin::Pack2x16unorm),
+            Coding16::Unorm,
+            x,
         ),
-        Builtin::Dot => given_one(
-            call.two_alike(Builtin::Dot),
-            values::place_of(Kind::One(call.scalar())),
-            products::dot(call.scalar(), call.count(), x, call.second()),
-        ),
-        Builtin::Transpose => given(call.one_value(Builtin::Transpose), p, x),
-        Builtin::Frexp => given_two(
-            call.one_value(Builtin::Frexp),
+        Builtin::Pack2x16float => pack::pack16(
+            reading,
+            w,
+            n,
             p,
-            exponent::fraction(call.scalar(), x),
-            places::integers_at(p),
-            exponent::exponent(call.scalar(), x),
+            types_of(Builtin::Pack2x16float),
+            Coding16::Float,
+            x,
         ),
-        Builtin::Ldexp => given(call.scaling(), p, exponent::ldexp(x, call.second())),
-        Builtin::Bitcast => bitcast(&call),
-        Builtin::Pack4x8snorm => given_one(
-            call.one_value(Builtin::Pack4x8snorm),
-            U32,
-            packing::word8(reading, engine, Coding8::Snorm, x),
-        ),
-        Builtin::Pack4x8unorm => given_one(
-            call.one_value(Builtin::Pack4x8unorm),
-            U32,
-            packing::word8(reading, engine, Coding8::Unorm, x),
-        ),
-        Builtin::Pack4xI8 => given_one(
-            call.one_value(Builtin::Pack4xI8),
-            U32,
-            packing::word8(reading, engine, Coding8::Signed, x),
-        ),
-        Builtin::Pack4xI8Clamp => given_one(
-            call.one_value(Builtin::Pack4xI8Clamp),
-            U32,
-            packing::clamped_word(reading, x),
-        ),
-        Builtin::Pack4xU8 => given_one(
-            call.one_value(Builtin::Pack4xU8),
-            U32,
-            packing::word8(reading, engine, Coding8::Unsigned, x),
-        ),
-        Builtin::Pack4xU8Clamp => given_one(
-            call.one_value(Builtin::Pack4xU8Clamp),
-            U32,
-            packing::word8(reading, engine, Coding8::ClampedUnsigned, x),
-        ),
-        Builtin::Pack2x16snorm => given_word(
-            call.one_value(Builtin::Pack2x16snorm),
-            packing::word16(reading, Coding16::Snorm, x),
-        ),
-        Builtin::Pack2x16unorm => given_word(
-            call.one_value(Builtin::Pack2x16unorm),
-            packing::word16(reading, Coding16::Unorm, x),
-        ),
-        Builtin::Pack2x16float => given_word(
-            call.one_value(Builtin::Pack2x16float),
-            packing::word16(reading, Coding16::Float, x),
-        ),
-        Builtin::Unpack4x8snorm => given(
-            call.one_value(Builtin::Unpack4x8snorm),
+        Builtin::Unpack4x8snorm => pack::unpack8(
+            engine,
+            w,
+            n,
+            p,
+            types_of(Builtin::Unpack4x8snorm),
+            Coding8::Snorm,
             VEC4_F32,
-            packing::lanes8(engine, Coding8::Snorm, x[0]),
+            x,
         ),
-        Builtin::Unpack4x8unorm => given(
-            call.one_value(Builtin::Unpack4x8unorm),
+        Builtin::Unpack4x8unorm => pack::unpack8(
+            engine,
+            w,
+            n,
+            p,
+            types_of(Builtin::Unpack4x8unorm),
+            Coding8::Unorm,
             VEC4_F32,
-            packing::lanes8(engine, Coding8::Unorm, x[0]),
+            x,
         ),
-        Builtin::Unpack4xI8 => given(
-            call.one_value(Builtin::Unpack4xI8),
+        Builtin::Unpack4xI8 => pack::unpack8(
+            engine,
+            w,
+            n,
+            p,
+            types_of(Builtin::Unpack4xI8),
+            Coding8::Signed,
             VEC4_I32,
-            packing::lanes8(engine, Coding8::Signed, x[0]),
+            x,
         ),
-        Builtin::Unpack4xU8 => given(
-            call.one_value(Builtin::Unpack4xU8),
+        Builtin::Unpack4xU8 => pack::unpack8(
+            engine,
+            w,
+            n,
+            p,
+            types_of(Builtin::Unpack4xU8),
+            Coding8::Unsigned,
             VEC4_U32,
-            packing::lanes8(engine, Coding8::Unsigned, x[0]),
+            x,
         ),
-        Builtin::Unpack2x16snorm => given(
-            call.one_value(Builtin::Unpack2x16snorm),
-            VEC2_F32,
-            packing::lanes16(Coding16::Snorm, x[0]),
-        ),
-        Builtin::Unpack2x16unorm => given(
-            call.one_value(Builtin::Unpack2x16unorm),
-            VEC2_F32,
-            packing::lanes16(Coding16::Unorm, x[0]),
-        ),
-        Builtin::Unpack2x16float => given(
-            call.one_value(Builtin::Unpack2x16float),
-            VEC2_F32,
-            packing::lanes16(Coding16::Float, x[0]),
-        ),
-        Builtin::Floor => given(
-            call.one_value(Builtin::Floor),
+        Builtin::Unpack2x16snorm => pack::unpack16(
+            w,
+            n,
             p,
-            rounding::whole(Way::Floor, call.scalar(), x),
+            types_of(Builtin::Unpack2x16snorm),
+            Coding16::Snorm,
+            x,
         ),
-        Builtin::Ceil => given(
-            call.one_value(Builtin::Ceil),
+        Builtin::Unpack2x16unorm => pack::unpack16(
+            w,
+            n,
             p,
-            rounding::whole(Way::Ceil, call.scalar(), x),
+            types_of(Builtin::Unpack2x16unorm),
+            Coding16::Unorm,
+            x,
         ),
-        Builtin::Trunc => given(
-            call.one_value(Builtin::Trunc),
+        Builtin::Unpack2x16float => pack::unpack16(
+            w,
+            n,
             p,
-            rounding::whole(Way::Trunc, call.scalar(), x),
+            types_of(Builtin::Unpack2x16float),
+            Coding16::Float,
+            x,
         ),
-        Builtin::Round => given(
-            call.one_value(Builtin::Round),
-            p,
-            rounding::whole(Way::Round, call.scalar(), x),
-        ),
-        Builtin::Fract => given(
-            call.one_value(Builtin::Fract),
-            p,
-            rounding::fract(call.scalar(), x),
-        ),
+        Builtin::Floor => wholes::whole(w, n, p, types_of(Builtin::Floor), Way::Floor, x),
+        Builtin::Ceil => wholes::whole(w, n, p, types_of(Builtin::Ceil), Way::Ceil, x),
+        Builtin::Trunc => wholes::whole(w, n, p, types_of(Builtin::Trunc), Way::Trunc, x),
+        Builtin::Round => wholes::whole(w, n, p, types_of(Builtin::Round), Way::Round, x),
+        Builtin::Fract => wholes::fract(w, n, p, types_of(Builtin::Fract), x),
         Builtin::Unknown => given(false, p, x),
     }
 }

@@ -21,6 +21,18 @@ pub enum Way {
     Round,
 }
 
+// A float format that leaves room in 32 bits: e bits for the exponent and p for the digits below the leading one.
+#[derive(Clone, Copy)]
+struct Sizes {
+    e: u32,
+    p: u32,
+    ghost sized: { Sized e p },
+}
+
+const F32: Sizes = Sizes { e: 8, p: 23 };
+
+const F16: Sizes = Sizes { e: 5, p: 10 };
+
 // ---- floor, ceil, trunc and round, by integers alone
 // All is worked out and one result chosen, with no jump, so that the four lanes of a value are worked out at once.
 
@@ -63,43 +75,40 @@ fn lift(nearest: bool, away: bool, n: u32, c: u32) -> u32
 // From 1 up `past` digits stand before the point beside the leading one, and where none stands behind it nothing is cut off. Else the rest is, and a carry goes
 // into the exponent's field. Odd from even is told by the last digit before the point; where that is the leading one, which is not stored, by the field of 1,
 // which is odd.
-fn from_one(nearest: bool, away: bool, e: u32, p: u32, m: u32) -> u32
-    requires { Sized e p × (m < 2 ^ (e + p)) }
-    ensures { 2 ^ (e + p - 1) - 2 ^ p ≤ m → MadeWhole nearest away e p m result }
+fn from_one(nearest: bool, away: bool, f: Sizes, m: u32) -> u32
+    requires { m < 2 ^ (f.e + f.p) }
+    ensures { 2 ^ (f.e + f.p - 1) - 2 ^ f.p ≤ m → MadeWhole nearest away f.e f.p m result }
 {
-    let hidden = power(p);
-    let one = power(e + p - 1) - hidden;
+    let hidden = power(f.p);
+    let one = power(f.e + f.p - 1) - hidden;
     let past = m.saturating_sub(one) / hidden;
-    let point = power(p.saturating_sub(past));
+    let point = power(f.p.saturating_sub(past));
     let lifted = m + lift(nearest, away, m / point, point);
     lifted - lifted % point
 }
 
 // Below 1 sizes compare as their magnitudes do, and that of 0.5 stands one exponent's field lower.
-fn whole_magnitude(nearest: bool, away: bool, e: u32, p: u32, m: u32) -> u32
-    requires { Sized e p × (m < 2 ^ (e + p)) }
-    ensures { MadeWhole nearest away e p m result }
+fn whole_magnitude(nearest: bool, away: bool, f: Sizes, m: u32) -> u32
+    requires { m < 2 ^ (f.e + f.p) }
+    ensures { MadeWhole nearest away f.e f.p m result }
 {
-    let hidden = power(p);
-    let one = power(e + p - 1) - hidden;
+    let hidden = power(f.p);
+    let one = power(f.e + f.p - 1) - hidden;
     let c = 2 * (one - hidden);
     let below = choose(c <= m + lift(nearest, away, 0, c), one, 0);
-    let from = from_one(nearest, away, e, p, m);
+    let from = from_one(nearest, away, f, m);
     choose(m < one, below, from)
 }
 
-// In a format of e bits for the exponent and p for the digits below the leading one.
-fn whole_in(way: Way, e: u32, p: u32, x: u32) -> u32
-    requires { Sized e p }
-    ensures { result ≡ whole way (format e p) x }
+fn whole_in(way: Way, f: Sizes, x: u32) -> u32
+    ensures { result ≡ whole way (format f.e f.p) x }
 {
-    let hidden = power(p);
-    let top = power(e + p);
+    let hidden = power(f.p);
+    let top = power(f.e + f.p);
     let infinity = top - hidden;
     let m = x % top;
     let negative = top <= x;
-    let r = choose(negative, top, 0)
-        + whole_magnitude(is_round(way), is_away(way, negative), e, p, m);
+    let r = choose(negative, top, 0) + whole_magnitude(is_round(way), is_away(way, negative), f, m);
     choose(
         infinity < m,
         infinity + hidden / 2,
@@ -113,8 +122,8 @@ pub fn whole(way: Way, s: Scalar, x: [u32; 4]) -> [u32; 4]
 {
     match s {
         Scalar::Boolean | Scalar::I32 | Scalar::U32 => x,
-        Scalar::F32 => x.map(|lane| whole_in(way, 8, 23, lane)),
-        Scalar::F16 => x.map(|lane| whole_in(way, 5, 10, lane)),
+        Scalar::F32 => x.map(|lane| whole_in(way, F32, lane)),
+        Scalar::F16 => x.map(|lane| whole_in(way, F16, lane)),
     }
 }
 
@@ -124,7 +133,7 @@ pub fn whole(way: Way, s: Scalar, x: [u32; 4]) -> [u32; 4]
 fn fract_f32(x: u32) -> u32
     ensures { result ≡ fract f32 x }
 {
-    let floor = whole_in(Way::Floor, 8, 23, x);
+    let floor = whole_in(Way::Floor, F32, x);
     floats::bits_of(floats::f32_of(x) - floats::f32_of(floor))
 }
 

@@ -1,12 +1,12 @@
 -- `exponent::leading` meets its contract: a subnormal is moved by the zeros before its first digit, and a normal number has its leading digit put back.
 -- Assumes nothing.
-use Rattle.std.proofs.Common.{◌≡◌, ℕ, ◌+◌, ◌-◌, ◌*◌, ◌%◌, ◌^◌, ◌<◌, ◌≤◌, sym, subst, le_trans, le_of_eq, lt_of_lt_of_le, mod-lt, div-le_self, arith, pow_pos, pow_mono}
+use Rattle.std.proofs.Common.{◌≡◌, ℕ, ◌+◌, ◌-◌, ◌*◌, ◌%◌, ◌^◌, ◌<◌, ◌≤◌, sym, subst, le_trans, le_of_eq, lt_of_lt_of_le, arith, pow_mono}
 use lib.Count.{count_leading_zeros}
 use Rattle.half.proofs.Leading.{zeros, leading}
 use Rattle.exponent.specs.Leads.{Leads}
 use Rattle.exponent.proofs.FirstDigits.{leads_low, leads_full}
 use Rattle.exponent.proofs.leading.Goals as goal
-use Rattle.exponent.proofs.leading.Goals.{Else-m-hidden, Then-m-hidden}
+use Rattle.exponent.proofs.leading.Goals.{Then-m-hidden}
 
 subnormal : (p m : ℕ) → p < 31 → 0 < m → m < 2 ^ p → Leads p m (m * 2 ^ (count_leading_zeros 32 m + p - 31) % 2 ^ 32) (32 - count_leading_zeros 32 m)
 subnormal p m k n h =
@@ -24,32 +24,8 @@ below c = lt_of_lt_of_le c.if-m-hidden.true (le_of_eq c.power-hidden.ensures)
 first : (c : Then-m-hidden) → (32 ≤ count_leading_zeros 32 c.args.m + c.args.p) × (count_leading_zeros 32 c.args.m ≤ 31)
 first c = zeros c.args.p c.args.m c.requires.1 (below c) (omega arith)
 
-some : (c : Else-m-hidden) → 0 < c.power-hidden.result
-some c = lt_of_lt_of_le (pow_pos c.args.p) (le_of_eq (sym c.power-hidden.ensures))
-
-pub overflow_add-result : goal.overflow_add-result
-overflow_add-result c = omega (arith, (first c).1)
-
 pub overflow_sub-result : goal.overflow_sub-result
 overflow_sub-result c = omega (arith, (first c).0)
-
-pub overflow_shl-result : goal.overflow_shl-result
-overflow_shl-result c = omega (arith, (first c).1)
-
-pub overflow_sub-result-then-m-hidden : goal.overflow_sub-result-then-m-hidden
-overflow_sub-result-then-m-hidden c = omega (arith, (first c).1)
-
-pub nonzero_rem-result : goal.nonzero_rem-result
-nonzero_rem-result c = some c
-
-pub overflow_add-result-else-m-hidden : goal.overflow_add-result-else-m-hidden
-overflow_add-result-else-m-hidden c = omega (arith, mod-lt c.args.m (some c))
-
-pub nonzero_div-result : goal.nonzero_div-result
-nonzero_div-result c = some c
-
-pub overflow_add-result-else-m-hidden-2 : goal.overflow_add-result-else-m-hidden-2
-overflow_add-result-else-m-hidden-2 c = omega (arith, div-le_self c.args.m c.power-hidden.result)
 
 pub returns-then-m-hidden : goal.returns-then-m-hidden
 returns-then-m-hidden c = subnormal c.args.p c.args.m c.requires.0 c.requires.1 (below c)

@@ -13,8 +13,8 @@ use Rattle.rounding.proofs.Digits.{Numbers, numbers, whole_from}
 use Rattle.rounding.proofs.from_one.Goals as goal
 use Rattle.rounding.proofs.from_one.Goals.{After-power, After-power-point}
 
-numbers_at : (c : After-power) → Numbers c.args.e c.args.p c.power-hidden.result c.power.result
-numbers_at c = numbers c.args.e c.args.p c.power-hidden.result c.power.result c.requires.0 c.power-hidden.ensures c.power.ensures
+numbers_at : (c : After-power) → Numbers c.args.f.e c.args.f.p c.power-hidden.result c.power.result
+numbers_at c = numbers c.args.f.e c.args.f.p c.power-hidden.result c.power.result c.args.f.sized c.power-hidden.ensures c.power.ensures
 
 some : (c : After-power-point) → 0 < c.power-point.result
 some c = lt_of_lt_of_le (pow_pos _) (le_of_eq (sym c.power-point.ensures))
@@ -22,12 +22,12 @@ some c = lt_of_lt_of_le (pow_pos _) (le_of_eq (sym c.power-point.ensures))
 pub overflow_add-lifted : goal.overflow_add-lifted
 overflow_add-lifted c =
     let a = c.args in
-    let z = c.requires in
+    let z = c.args.f.sized in
     let point = c.power-point.result in
     omega (
       arith,
-      lt_of_lt_of_le z.1 (pow_mono {j = 31} z.0.bits),
-      le_trans (le_of_eq c.power-point.ensures) (pow_mono {j = 31} (omega (arith, z.0.bits))),
+      lt_of_lt_of_le c.requires (pow_mono {j = 31} z.bits),
+      le_trans (le_of_eq c.power-point.ensures) (pow_mono {j = 31} (omega (arith, z.bits))),
       c.lift.ensures,
       lift_most a.nearest a.away (a.m / point) point (some (goal.at.overflow_add-lifted c).After-power-point),
     )
@@ -39,9 +39,9 @@ returns c g w s i j =
     let h = c.power-hidden.result in
     let o = c.power.result - h in
     let point = c.power-point.result in
-    let P : point ≡ 2 ^ (a.p - (a.m - o) / h) = c.power-point.ensures ∙ rw (c.saturating_sub-2.ensures, c.saturating_sub.ensures) in
+    let P : point ≡ 2 ^ (a.f.p - (a.m - o) / h) = c.power-point.ensures ∙ rw (c.saturating_sub-2.ensures, c.saturating_sub.ensures) in
     lifted_cut w s a.m point c.lift.result (some (goal.at.returns c).After-power-point) (c.lift.ensures ∙ ap₂ (λ (x y : Bool). lift x y (a.m / point) point) i j)
-    ∙ rw (P, N.unit_is, N.hidden_is) (whole_from w s (format a.e a.p) N.fields a.m (omega (arith, N.unit_is, N.hidden_is, c.power.ensures)))
+    ∙ rw (P, N.unit_is, N.hidden_is) (whole_from w s (format a.f.e a.f.p) N.fields a.m (omega (arith, N.unit_is, N.hidden_is, c.power.ensures)))
 
 pub overflow_sub-one : goal.overflow_sub-one
 overflow_sub-one c = omega (arith, numbers_at c)

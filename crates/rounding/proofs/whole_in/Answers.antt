@@ -29,18 +29,18 @@ numbers e p h t z i g =
     let sum = top_is (format e p) in
     record { hidden_is = i; top_is = T; infinity_is = omega arith; some = (omega (arith, pow_pos p), omega arith, le_trans (le_of_eq g) (pow_mono {j = 31} z.bits)) }
 
-numbers_at : (c : After-power-top) → Numbers c.args.e c.args.p c.power-hidden.result c.power-top.result
-numbers_at c = numbers c.args.e c.args.p c.power-hidden.result c.power-top.result c.requires c.power-hidden.ensures c.power-top.ensures
+numbers_at : (c : After-power-top) → Numbers c.args.f.e c.args.f.p c.power-hidden.result c.power-top.result
+numbers_at c = numbers c.args.f.e c.args.f.p c.power-hidden.result c.power-top.result c.args.f.sized c.power-hidden.ensures c.power-top.ensures
 
 pub whole_magnitude-requires : goal.whole_magnitude-requires
 whole_magnitude-requires c =
     let t = c.power-top in
-    (c.requires, lt_of_lt_of_le (mod-lt _ (omega (arith, numbers_at (goal.at.whole_magnitude-requires c).After-power-top))) (le_of_eq t.ensures))
+    lt_of_lt_of_le (mod-lt _ (omega (arith, numbers_at (goal.at.whole_magnitude-requires c).After-power-top))) (le_of_eq t.ensures)
 
 made : (c : After-whole_magnitude)
     → let a = c.args in
     let t = c.power-top.result in
-    c.whole_magnitude.result ≡ whole_magnitude a.way (leb t a.x) (format a.e a.p) (a.x % t)
+    c.whole_magnitude.result ≡ whole_magnitude a.way (leb t a.x) (format a.f.e a.f.p) (a.x % t)
 made c = c.whole_magnitude.ensures _ _ c.is_round.ensures c.is_away.ensures
 
 pub returns : goal.returns
@@ -52,10 +52,10 @@ returns c =
 pub overflow_add-r : goal.overflow_add-r
 overflow_add-r c =
     let a = c.args in
-    let f = format a.e a.p in
+    let f = format a.f.e a.f.p in
     let t = c.power-top.result in
     let N = numbers_at (goal.at.overflow_add-r c).After-power-top in
-    let r = whole_below f a.way (leb t a.x) (a.x % t) c.requires.deep (top f) (omega (arith, infinity_below f)) (lt_of_lt_of_le (mod-lt a.x (omega (arith, N))) (le_of_eq N.top_is)) in
+    let r = whole_below f a.way (leb t a.x) (a.x % t) c.args.f.sized.deep (top f) (omega (arith, infinity_below f)) (lt_of_lt_of_le (mod-lt a.x (omega (arith, N))) (le_of_eq N.top_is)) in
     omega (arith, N, made c, r, chosen (leb t a.x) t c.choose.result c.choose.ensures)
   where
     chosen : (b : Bool) (t r : ℕ) → r ≡ cond b t 0 → r ≤ t

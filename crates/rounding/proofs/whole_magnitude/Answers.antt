@@ -17,16 +17,16 @@ use Rattle.rounding.proofs.Digits.{Numbers, numbers, whole_small}
 use Rattle.rounding.proofs.whole_magnitude.Goals as goal
 use Rattle.rounding.proofs.whole_magnitude.Goals.{After-power}
 
-numbers_at : (c : After-power) → Numbers c.args.e c.args.p c.power-hidden.result c.power.result
-numbers_at c = numbers c.args.e c.args.p c.power-hidden.result c.power.result c.requires.0 c.power-hidden.ensures c.power.ensures
+numbers_at : (c : After-power) → Numbers c.args.f.e c.args.f.p c.power-hidden.result c.power.result
+numbers_at c = numbers c.args.f.e c.args.f.p c.power-hidden.result c.power.result c.args.f.sized c.power-hidden.ensures c.power.ensures
 
 pub overflow_add-m : goal.overflow_add-m
 overflow_add-m c =
     let a = c.args in
-    let z = c.requires in
+    let z = c.args.f.sized in
     let N = numbers_at (goal.at.overflow_add-m c).After-power in
     let half = 2 * (c.power.result - c.power-hidden.result - c.power-hidden.result) in
-    omega (arith, N, lt_of_lt_of_le z.1 (pow_mono {j = 31} z.0.bits), c.lift.ensures, lift_most a.nearest a.away 0 half (omega (arith, N)))
+    omega (arith, N, lt_of_lt_of_le c.requires (pow_mono {j = 31} z.bits), c.lift.ensures, lift_most a.nearest a.away 0 half (omega (arith, N)))
 
 pub returns : goal.returns
 returns c w s i j =
@@ -40,7 +40,7 @@ returns c w s i j =
       | inl g ↦
           let rise = ap (λ (x : ℕ). leb two (a.m + x)) (c.lift.ensures ∙ ap₂ (λ (x y : Bool). lift x y 0 two) i j) ∙ lifted w s 0 a.m two (omega (arith, N)) in
           c.choose.ensures
-          ∙ rw (lt-ltb a.m o g) (c.choose-below.ensures ∙ rw (rise, N.unit_is, N.hidden_is) (whole_small w s (format a.e a.p) N.fields a.m (rw N.unit_is at g)))
+          ∙ rw (lt-ltb a.m o g) (c.choose-below.ensures ∙ rw (rise, N.unit_is, N.hidden_is) (whole_small w s (format a.f.e a.f.p) N.fields a.m (rw N.unit_is at g)))
       | inr g ↦ c.choose.ensures ∙ rw (le-ltb a.m o g) (c.from_one-from.ensures (omega (arith, t.ensures, h.ensures)) w s i j)
     ]
 

@@ -10,7 +10,7 @@ use lib.ListN.{length, take, get_or}
 use lib.Seq.{take-nil}
 use Rattle.values.specs.Value.{every}
 use borrow.Author.Rules.{rules}
-use Rattle.arms.proofs.each_is.Goals as goal
+use Rattle.arms.proofs.logical.each_is.Goals as goal
 
 each_of : (v n a b c d : ℕ) → (eqb a v || ltb n 1) && (eqb b v || ltb n 2) && (eqb c v || ltb n 3) && (eqb d v || ltb n 4) ≡ every (λ y. eqb y v) (take n (a ∷ b ∷ c ∷ d ∷ []))
 each_of v zero a b c d = simp or-true

@@ -1,0 +1,6 @@
+-- Each part of the outcome is what its function ensures. Assumes nothing.
+use mathlib.Core.Path.{◌∙◌}
+use Rattle.arms.proofs.numbers.count_leading_zeros.Goals as goal
+
+pub returns : goal.returns
+returns c = c.given.ensures ∙ rw (c.count_leading_zeros.ensures, c.one_value.ensures)
