@@ -2,7 +2,7 @@
 // pointer and a length. bindings/ has the C header and the Rust crate.
 #![tactic(auto)]
 
-ghost use Rattle.std.specs.Prelude.{◌≡◌, cond, ◌&&◌, [], length};
+ghost use Rattle.std.specs.Prelude.{◌≡◌, true, false, cond, ◌&&◌, [], length, MatchOption};
 ghost use Rattle.readings.specs.Readings.{is_reading, reading_at};
 ghost use Rattle.engines.specs.Engines.{is_engine, engine_at};
 ghost use Rattle.half.specs.Convert.{half_of, single_of};
@@ -47,7 +47,7 @@ const NO_SUCH_CHOICE: u8 = 1;
 
 // The reading and the engine of two numbers that have both.
 fn choices(reading: u64, engine: u64) -> Option<(Reading, Engine)>
-    ensures { result ≡ cond (is_reading reading && is_engine engine) (Some (reading_at reading, engine_at engine)) None }
+    ensures { MatchOption result (is_reading reading && is_engine engine ≡ false) (λ c. (is_reading reading && is_engine engine ≡ true) × (c.0 ≡ reading_at reading) × (c.1 ≡ engine_at engine)) }
 {
     let reading = Reading::try_from(reading).ok()?;
     let engine = Engine::try_from(engine).ok()?;
