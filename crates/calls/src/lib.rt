@@ -10,10 +10,10 @@ ghost use Rattle.calls.specs.Program.{types_of};
 
 use values::{Kind, Value};
 
-// In the order of 01's table; Unknown is a name that is not in it.
+// In the order of 01's table, by their numbers in it; Unknown is a name that is not in it.
 #[derive(Clone, Copy)]
 pub enum Builtin {
-    All,
+    All = 1,
     Any,
     Select,
     Abs,
@@ -53,7 +53,7 @@ pub enum Builtin {
     Trunc,
     Round,
     Fract,
-    Unknown,
+    Unknown = 0,
 }
 
 // The builtins by their numbers: their places in 01's table from 1.
@@ -117,49 +117,7 @@ pub fn builtin_at(n: u64) -> Builtin
 pub fn number_of(b: Builtin) -> u64
     ensures { (builtin_at result ≡ b) × (result < 41) }
 {
-    match b {
-        Builtin::All => 1,
-        Builtin::Any => 2,
-        Builtin::Select => 3,
-        Builtin::Abs => 4,
-        Builtin::Sign => 5,
-        Builtin::CountLeadingZeros => 6,
-        Builtin::CountOneBits => 7,
-        Builtin::CountTrailingZeros => 8,
-        Builtin::Min => 9,
-        Builtin::Max => 10,
-        Builtin::Clamp => 11,
-        Builtin::Saturate => 12,
-        Builtin::Step => 13,
-        Builtin::Cross => 14,
-        Builtin::Dot => 15,
-        Builtin::Transpose => 16,
-        Builtin::Frexp => 17,
-        Builtin::Ldexp => 18,
-        Builtin::Bitcast => 19,
-        Builtin::Pack4x8snorm => 20,
-        Builtin::Pack4x8unorm => 21,
-        Builtin::Pack4xI8 => 22,
-        Builtin::Pack4xI8Clamp => 23,
-        Builtin::Pack4xU8 => 24,
-        Builtin::Pack4xU8Clamp => 25,
-        Builtin::Pack2x16snorm => 26,
-        Builtin::Pack2x16unorm => 27,
-        Builtin::Pack2x16float => 28,
-        Builtin::Unpack4x8snorm => 29,
-        Builtin::Unpack4x8unorm => 30,
-        Builtin::Unpack4xI8 => 31,
-        Builtin::Unpack4xU8 => 32,
-        Builtin::Unpack2x16snorm => 33,
-        Builtin::Unpack2x16unorm => 34,
-        Builtin::Unpack2x16float => 35,
-        Builtin::Floor => 36,
-        Builtin::Ceil => 37,
-        Builtin::Trunc => 38,
-        Builtin::Round => 39,
-        Builtin::Fract => 40,
-        Builtin::Unknown => 0,
-    }
+    b as u64
 }
 
 // `target` is bitcast's type field, and `count` counts it. Slots past the count are not looked at.
@@ -177,8 +135,7 @@ pub struct Call {
 pub fn types_of(b: Builtin) -> u64
     ensures { result ≡ types_of (takes b) }
 {
-    let row = table::entry_of(b);
-    row.set
+    table::entry_of(b).set
 }
 
 // A call's first three words.

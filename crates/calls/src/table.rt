@@ -65,11 +65,7 @@ pub fn entry_of(b: Builtin) -> Entry
     ensures { result ≡ entry_of b }
 {
     match b {
-        Builtin::All => Entry {
-            shape: Shape::OneValue,
-            set: BOOLEANS,
-        },
-        Builtin::Any => Entry {
+        Builtin::All | Builtin::Any => Entry {
             shape: Shape::OneValue,
             set: BOOLEANS,
         },
@@ -77,31 +73,15 @@ pub fn entry_of(b: Builtin) -> Entry
             shape: Shape::Selecting,
             set: BOOLEANS,
         },
-        Builtin::Abs => Entry {
+        Builtin::Abs | Builtin::Sign => Entry {
             shape: Shape::OneValue,
             set: NUMBERS,
         },
-        Builtin::Sign => Entry {
-            shape: Shape::OneValue,
-            set: NUMBERS,
-        },
-        Builtin::CountLeadingZeros => Entry {
+        Builtin::CountLeadingZeros | Builtin::CountOneBits | Builtin::CountTrailingZeros => Entry {
             shape: Shape::OneValue,
             set: INTEGERS,
         },
-        Builtin::CountOneBits => Entry {
-            shape: Shape::OneValue,
-            set: INTEGERS,
-        },
-        Builtin::CountTrailingZeros => Entry {
-            shape: Shape::OneValue,
-            set: INTEGERS,
-        },
-        Builtin::Min => Entry {
-            shape: Shape::TwoAlike,
-            set: ORDERED,
-        },
-        Builtin::Max => Entry {
+        Builtin::Min | Builtin::Max => Entry {
             shape: Shape::TwoAlike,
             set: ORDERED,
         },
@@ -129,7 +109,12 @@ pub fn entry_of(b: Builtin) -> Entry
             shape: Shape::OneValue,
             set: MATRICES,
         },
-        Builtin::Frexp => Entry {
+        Builtin::Frexp
+        | Builtin::Floor
+        | Builtin::Ceil
+        | Builtin::Trunc
+        | Builtin::Round
+        | Builtin::Fract => Entry {
             shape: Shape::OneValue,
             set: FLOATS,
         },
@@ -141,89 +126,31 @@ pub fn entry_of(b: Builtin) -> Entry
             shape: Shape::Casting,
             set: NUMBERS,
         },
-        Builtin::Pack4x8snorm => Entry {
+        Builtin::Pack4x8snorm | Builtin::Pack4x8unorm => Entry {
             shape: Shape::OneValue,
             set: VEC4_F32,
         },
-        Builtin::Pack4x8unorm => Entry {
-            shape: Shape::OneValue,
-            set: VEC4_F32,
-        },
-        Builtin::Pack4xI8 => Entry {
+        Builtin::Pack4xI8 | Builtin::Pack4xI8Clamp => Entry {
             shape: Shape::OneValue,
             set: VEC4_I32,
         },
-        Builtin::Pack4xI8Clamp => Entry {
-            shape: Shape::OneValue,
-            set: VEC4_I32,
-        },
-        Builtin::Pack4xU8 => Entry {
+        Builtin::Pack4xU8 | Builtin::Pack4xU8Clamp => Entry {
             shape: Shape::OneValue,
             set: VEC4_U32,
         },
-        Builtin::Pack4xU8Clamp => Entry {
-            shape: Shape::OneValue,
-            set: VEC4_U32,
-        },
-        Builtin::Pack2x16snorm => Entry {
+        Builtin::Pack2x16snorm | Builtin::Pack2x16unorm | Builtin::Pack2x16float => Entry {
             shape: Shape::OneValue,
             set: VEC2_F32,
         },
-        Builtin::Pack2x16unorm => Entry {
-            shape: Shape::OneValue,
-            set: VEC2_F32,
-        },
-        Builtin::Pack2x16float => Entry {
-            shape: Shape::OneValue,
-            set: VEC2_F32,
-        },
-        Builtin::Unpack4x8snorm => Entry {
+        Builtin::Unpack4x8snorm
+        | Builtin::Unpack4x8unorm
+        | Builtin::Unpack4xI8
+        | Builtin::Unpack4xU8
+        | Builtin::Unpack2x16snorm
+        | Builtin::Unpack2x16unorm
+        | Builtin::Unpack2x16float => Entry {
             shape: Shape::OneValue,
             set: U32,
-        },
-        Builtin::Unpack4x8unorm => Entry {
-            shape: Shape::OneValue,
-            set: U32,
-        },
-        Builtin::Unpack4xI8 => Entry {
-            shape: Shape::OneValue,
-            set: U32,
-        },
-        Builtin::Unpack4xU8 => Entry {
-            shape: Shape::OneValue,
-            set: U32,
-        },
-        Builtin::Unpack2x16snorm => Entry {
-            shape: Shape::OneValue,
-            set: U32,
-        },
-        Builtin::Unpack2x16unorm => Entry {
-            shape: Shape::OneValue,
-            set: U32,
-        },
-        Builtin::Unpack2x16float => Entry {
-            shape: Shape::OneValue,
-            set: U32,
-        },
-        Builtin::Floor => Entry {
-            shape: Shape::OneValue,
-            set: FLOATS,
-        },
-        Builtin::Ceil => Entry {
-            shape: Shape::OneValue,
-            set: FLOATS,
-        },
-        Builtin::Trunc => Entry {
-            shape: Shape::OneValue,
-            set: FLOATS,
-        },
-        Builtin::Round => Entry {
-            shape: Shape::OneValue,
-            set: FLOATS,
-        },
-        Builtin::Fract => Entry {
-            shape: Shape::OneValue,
-            set: FLOATS,
         },
         Builtin::Unknown => Entry {
             shape: Shape::Unlisted,
@@ -240,9 +167,7 @@ fn bytes_of(n: usize, s: Scalar) -> usize
 {
     match s {
         Scalar::Boolean => 0,
-        Scalar::I32 => n * 4,
-        Scalar::U32 => n * 4,
-        Scalar::F32 => n * 4,
+        Scalar::I32 | Scalar::U32 | Scalar::F32 => n * 4,
         Scalar::F16 => n * 2,
     }
 }

@@ -1,18 +1,16 @@
 -- Laws of what a buffer holds, moved to its start.
 use Prim.Native.Nat.{ℕ, ◌+◌, ◌-◌, ◌<◌, ◌≤◌, min}
-use mathlib.Core.List.{List, [], ◌∷◌, ◌++◌, append_assoc}
+use mathlib.Core.List.{List, [], ◌++◌, append_assoc}
 use mathlib.Core.Bool.{Bool, true, false}
 use mathlib.Core.Path.{◌≡◌, refl, ap, sym, ◌∙◌}
-use native.Mathlib.Nat.{zero-add, min-le_left, min-le_right, min-eq_left, min-eq_right}
-use native.Mathlib.Numerals.{add-one}
+use native.Mathlib.Nat.{min-le_right, min-eq_left, min-eq_right}
 use native.Mathlib.Omega.{arith}
-use lib.ListN.{length, take, drop, get_or, set, length-take, length-drop, drop_of_length-le}
-use lib.Seq.{get_or-append-add, get_or-drop, get_or-take, take-length, length-take-le, take-suc, take_all, take-add, take_at, drop_at, drop-append-le, take-append_seam}
+use lib.ListN.{length, take, drop, length-take, length-drop, drop_of_length-le}
+use lib.Seq.{paste, take-length, length-take-le, take_all, take-add, take_at, drop_at, drop-append-le, take-append_seam}
 use lib.Dec.{ltb}
 use borrow.Author.Tests.{ltb-true, ltb-false}
 use Rattle.buffers.specs.Memory.{put}
 use Rattle.cutting.specs.Cutting.{held_of}
-use Rattle.buffers.proofs.Puts.{put_length, put_put, put_set}
 
 module _ (b : List ℕ) (at have : ℕ) where
   pub length_held : length (held_of b at have) ≡ min have (length b) - at
@@ -22,43 +20,6 @@ module _ (b : List ℕ) (at have : ℕ) where
   pub held_none : min have (length b) < at → held_of b at have ≡ []
   unfolding held_of
   held_none h = drop_of_length-le (take have b) {i = at} (omega (arith, length-take have b))
-
-  held_at : (i : ℕ) → i < length (held_of b at have) → get_or (held_of b at have) i 0 ≡ get_or b (at + i) 0
-  unfolding held_of
-  held_at i h =
-      get_or-drop at (take have b) i 0
-      ∙ get_or-take have b (at + i) 0 (omega (arith, h, length-drop at (take have b), length-take have b, min-le_left have (length b)))
-
--- past what is written at the start nothing has changed
-past_put : (o xs : List ℕ) (j : ℕ) → length xs ≤ j → get_or (put o 0 xs) j 0 ≡ get_or o j 0
-unfolding put
-past_put o xs j h =
-    let k : j ≡ length xs + (j - length xs) = omega arith in
-    ap (λ (i : ℕ). get_or (xs ++ drop (0 + length xs) o) i 0) k
-    ∙ get_or-append-add xs (drop (0 + length xs) o) (j - length xs) 0
-    ∙ get_or-drop (0 + length xs) o (j - length xs) 0
-    ∙ ap (λ (i : ℕ). get_or o i 0) (omega (arith, k))
-
--- one byte more of a copy
-copy_step : (o : List ℕ) (at i : ℕ) (s : List ℕ) → i < length s → at + length s ≤ length o
-    → set (put o at (take i s)) (at + i) (get_or s i 0) ≡ put o at (take (i + 1) s)
-copy_step o at i s h k =
-    let l : length (take i s) ≡ i = length-take-le i s (omega arith) in
-    let q = put_length o at (take i s) (omega arith) in
-    put_set (put o at (take i s)) (at + i) (get_or s i 0) (omega arith)
-    ∙ ap (λ (n : ℕ). put (put o at (take i s)) (at + n) (get_or s i 0 ∷ [])) (sym l)
-    ∙ put_put o at (take i s) (omega arith) (get_or s i 0 ∷ [])
-    ∙ ap (put o at) (rw add-one (sym (take-suc s i 0 h)))
-
--- one byte more is moved
-pub held_turn : (o : List ℕ) (at have i : ℕ) {b : List ℕ} → i < length (held_of o at have) → b ≡ put o 0 (take i (held_of o at have))
-    → set b i (get_or b (at + i) 0) ≡ put o 0 (take (i + 1) (held_of o at have))
-held_turn o at have i h e =
-    let w = held_of o at have in
-    let l : length (take i w) ≡ i = length-take-le i w (omega arith) in
-    let v : get_or (put o 0 (take i w)) (at + i) 0 ≡ get_or w i 0 = past_put o (take i w) (at + i) (omega arith) ∙ sym (held_at o at have i h) in
-    rw (e, v) (ap (λ (k : ℕ). set (put o 0 (take i w)) k (get_or w i 0)) (sym (zero-add i))
-    ∙ copy_step o 0 i w h (omega (arith, length_held o at have, min-le_right have (length o))))
 
 pub take_min : (b : List ℕ) (have : ℕ) → take (min have (length b)) b ≡ take have b
 take_min b have = by (ltb have (length b)) refl
@@ -91,6 +52,14 @@ module _ (b : List ℕ) (at have : ℕ) where
       sym (drop_at (take start b) (take (end - start) (drop start b)) start (length-take-le start b (omega arith)))
       ∙ ap (drop start) (sym (take-add start (end - start) b) ∙ ap (λ (i : ℕ). take i b) (sym k))
       ∙ rw (f, e) (ap (drop (min at (min have (length b)))) (take_min b have) ∙ drop_min)
+
+-- what is moved to the start is what the buffer holds
+pub held_pasted : (b : List ℕ) (at have : ℕ) {end : ℕ} → end ≡ min have (length b) → at ≤ end → paste b 0 (drop at b) (end - at) ≡ put b 0 (held_of b at have)
+unfolding put
+held_pasted b at have {end} e h =
+    let p = held_part b at have {start = at} {end = end} e (omega arith) in
+    let n : end - at ≡ length (held_of b at have) = omega (arith, length_held b at have) in
+    rw (p, n)
 
 -- What is read behind what is held: the bytes before it stay.
 module _ (b : List ℕ) {at have : ℕ} (h : at ≤ have) where

@@ -58,21 +58,16 @@ pub fn carry(buf: &mut [u8], at: usize, have: usize) -> usize
     ensures { (result ≡ length (held_of buf.old at have)) × (buf.new ≡ put buf.old 0 (held_of buf.old at have))
         × (result ≤ length buf.old) }
 {
-    let end = least(have, buf.len());
+    let end = have.min(buf.len());
     if at > end {
         return 0;
     }
-    let n = end - at;
-    let mut i = 0;
-    while i < n {
-        buf[i] = buf[at + i];
-        i += 1;
-    }
-    n
+    buf.copy_within(at..end, 0);
+    end - at
 }
 
 pub fn least(a: usize, b: usize) -> usize
     ensures { result ≡ min a b }
 {
-    if a < b { a } else { b }
+    a.min(b)
 }

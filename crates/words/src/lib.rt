@@ -62,6 +62,7 @@ pub fn cut_at(w: &[u64], at: usize) -> [u32; 4]
     if w.len() < at + 17 {
         return [0; 4];
     }
+    // Written out: of `map` and `from_fn` here the proof did not close.
     [
         values::cut_lane(w[at + 1]),
         values::cut_lane(w[at + 2]),
@@ -77,11 +78,7 @@ pub fn clear(out: &mut [u64], at: usize)
     requires { at + 17 ≤ length out.old }
     ensures { out.new ≡ put out.old at (words_of empty_value) }
 {
-    let mut i = 0;
-    while i < 17 {
-        out[at + i] = 0;
-        i += 1;
-    }
+    out[at..at + 17].fill(0);
 }
 
 fn lane_at(i: usize, n: usize, x: [u32; 4]) -> u64
@@ -101,10 +98,8 @@ pub fn put_lanes(out: &mut [u64], at: usize, p: u64, x: [u32; 4])
 {
     let n = places::few_at(p);
     out[at] = p;
-    let mut i = 0;
-    while i < 16 {
+    for i in 0..16 {
         out[at + 1 + i] = lane_at(i, n, x);
-        i += 1;
     }
 }
 
@@ -116,11 +111,7 @@ fn sixteen(w: &[u64], at: usize) -> [u64; 16]
     ensures { result ≡ take 16 (drop (at + 1) w.now) }
 {
     let mut l = [0; 16];
-    let mut i = 0;
-    while i < 16 {
-        l[i] = w[at + 1 + i];
-        i += 1;
-    }
+    l.copy_from_slice(&w[at + 1..at + 17]);
     l
 }
 
@@ -146,9 +137,5 @@ pub fn put_value(out: &mut [u64], at: usize, v: Value)
     let k = v.kind;
     let l = v.lanes;
     out[at] = values::place_of(k);
-    let mut i = 0;
-    while i < 16 {
-        out[at + 1 + i] = l[i];
-        i += 1;
-    }
+    out[at + 1..at + 17].copy_from_slice(&l);
 }

@@ -1,7 +1,7 @@
 -- The type's place is the first word; from there the invariant is that writing all lanes comes to writing those from i on. Assumes nothing.
-use Prim.Native.Nat.{◌+◌, ◌-◌}
+use Prim.Native.Nat.{◌+◌}
 use mathlib.Core.List.{[]}
-use mathlib.Core.Path.{◌≡◌, refl, ap, sym, ◌∙◌}
+use mathlib.Core.Path.{◌≡◌, ap, sym, ◌∙◌}
 use native.Mathlib.Nat.{add-zero}
 use native.Mathlib.Omega.{arith}
 use borrow.Author.Rules.{rules}
@@ -13,26 +13,17 @@ use Rattle.words.proofs.Kept.{first_of, first_length, first_lane, first_words}
 use Rattle.words.proofs.put_lanes.Goals as goal
 
 pub loop-i-init : goal.loop-i-init
-loop-i-init c = (search rules, refl, rw add-zero)
-
-pub bounds-out-at-in-loop-i : goal.bounds-out-at-in-loop-i
-bounds-out-at-in-loop-i c =
-    let a = c.args in
-    let n = c.loop-i.invariant.1 ∙ length-set a.out.now a.at _ in
-    search rules
+loop-i-init c = rw add-zero
 
 pub loop-i-preserved : goal.loop-i-preserved
 loop-i-preserved c =
     let a = c.args in
     let l = c.loop-i in
-    let m = l.invariant.1 ∙ length-set a.out.now a.at _ in
     let four : length a.x ≡ 4 = search rules in
     let n = first_length a.p a.x four in
+    let m = length-set a.out.now a.at a.p in
     let e = first_lane a.p a.x l.i four c.loop-i-test.true c.few_at-n.ensures.0 c.lane_at.ensures in
-    (search rules, simp length-set m, l.invariant.2 ∙ rw e (put_drop l.out (a.at + 1) (first_of a.p a.x).lanes l.i (omega arith) (omega arith)))
-
-pub shape_of-out : goal.shape_of-out
-shape_of-out c = c.loop-i.invariant.1 ∙ length-set c.args.out.now c.args.at _
+    l.invariant ∙ rw e (put_drop l.out (a.at + 1) (first_of a.p a.x).lanes l.i (omega arith) (omega arith))
 
 pub returns : goal.returns
 returns c =
@@ -45,4 +36,4 @@ returns c =
     let z : drop l.i lanes ≡ [] = rw (e, drop-length) in
     sym
     (ap (put a.out.now a.at) (first_words a.p a.x (omega (arith, c.requires.1))) ∙ put_cons a.out.now a.at a.p lanes (omega arith)
-    ∙ l.invariant.2 ∙ rw z (put_nil l.out (a.at + 1 + l.i)))
+    ∙ l.invariant ∙ rw z (put_nil l.out (a.at + 1 + l.i)))

@@ -1,42 +1,19 @@
--- The type's place is the first word; from there the invariant is that writing all lanes comes to writing those from i on. Assumes nothing.
+-- The type's place is the first word, and the lanes are copied behind it. Assumes nothing.
 use Prim.Native.Nat.{◌+◌, ◌-◌}
-use mathlib.Core.List.{[]}
-use mathlib.Core.Path.{◌≡◌, refl, sym, ◌∙◌}
-use native.Mathlib.Nat.{add-zero}
+use mathlib.Core.Path.{◌≡◌, ap, sym, ◌∙◌}
 use native.Mathlib.Omega.{arith}
-use lib.ListN.{length, drop, length-set}
-use lib.Seq.{drop-length}
 use borrow.Author.Rules.{rules}
-use Rattle.buffers.proofs.Puts.{put_cons, put_drop, put_nil}
+use lib.ListN.{length, set, length-set}
+use borrow.Rule.Slice.PartMut.{put_mid}
+use Rattle.buffers.proofs.Puts.{put_cons, put_part}
 use Rattle.words.proofs.put_value.Goals as goal
-
-pub loop-i-init : goal.loop-i-init
-loop-i-init c = (search rules, refl, rw add-zero)
-
-pub bounds-out-at-in-loop-i : goal.bounds-out-at-in-loop-i
-bounds-out-at-in-loop-i c =
-    let a = c.args in
-    let n = c.loop-i.invariant.1 ∙ length-set a.out.now a.at _ in
-    search rules
-
-pub loop-i-preserved : goal.loop-i-preserved
-loop-i-preserved c =
-    let a = c.args in
-    let l = c.loop-i in
-    let m = l.invariant.1 ∙ length-set a.out.now a.at _ in
-    let n : length a.v.lanes ≡ 16 = search rules in
-    (search rules, simp length-set m, l.invariant.2 ∙ put_drop l.out (a.at + 1) a.v.lanes l.i (omega arith) (omega arith))
-
-pub shape_of-out : goal.shape_of-out
-shape_of-out c = c.loop-i.invariant.1 ∙ length-set c.args.out.now c.args.at _
 
 pub returns : goal.returns
 returns c =
     let a = c.args in
-    let l = c.loop-i in
+    let p = c.place_of.result in
     let n : length a.v.lanes ≡ 16 = search rules in
-    let e : l.i ≡ length a.v.lanes = omega arith in
-    let z : drop l.i a.v.lanes ≡ [] = rw (e, drop-length) in
-    sym
-    (rw (← c.place_of.ensures) (put_cons a.out.now a.at _ a.v.lanes (omega arith))
-    ∙ l.invariant.2 ∙ rw z (put_nil l.out (a.at + 1 + l.i)))
+    let m = length-set a.out.now a.at p in
+    ap (put_mid (a.at + 1) (a.at + 17 - (a.at + 1)) (set a.out.now a.at p)) c.copy_from_slice.ensures.after
+    ∙ put_part (set a.out.now a.at p) (a.at + 1) _ a.v.lanes (omega arith)
+    ∙ sym (rw (← c.place_of.ensures) (put_cons a.out.now a.at p a.v.lanes (omega arith)))
