@@ -1,22 +1,20 @@
 // A line's fields.
 #![tactic(auto)]
 
-ghost use Rattle.std.specs.Prelude.{◌≡◌, ◌+◌, ◌≤◌, cond, drop};
-ghost use Rattle.fields.specs.Fields.{field_at, argument_count};
+ghost use Rattle.std.specs.Prelude.{◌≡◌, ◌==◌, ◌+◌, ◌≤◌, cond, drop, count_by};
+ghost use Rattle.fields.specs.Fields.{tab, field_at, argument_count};
 
 // The k-th field of a line, counted from 0: the part between its tabs, and the empty part where it is missing.
 pub fn field(line: &[u8], k: usize) -> &[u8]
     ensures { result.now ≡ field_at line.now k }
 {
     let mut at: usize = 0;
-    let mut left = k;
-    while left > 0 {
+    for passed in 0..k {
         let n = buffers::find(&line[at..], b'\t');
         if n == line.len() - at {
             return &line[0..0];
         }
         at += n + 1;
-        left -= 1;
     }
     let end = at + buffers::find(&line[at..], b'\t');
     &line[at..end]
@@ -36,15 +34,15 @@ pub fn one_if(test: bool) -> usize
     if test { 1 } else { 0 }
 }
 
+fn tab_count(line: &[u8]) -> usize
+    ensures { result ≡ count_by (λ x. x == tab) line.now }
+{
+    line.iter().filter(|b| **b == b'\t').count()
+}
+
 // How many arguments a line has: as many as tabs.
 pub fn argument_count(line: &[u8]) -> usize
     ensures { result ≡ argument_count line.now }
 {
-    let mut n: usize = 0;
-    let mut i = 0;
-    while i < line.len() {
-        n += one_if(line[i] == b'\t');
-        i += 1;
-    }
-    n
+    tab_count(line)
 }
