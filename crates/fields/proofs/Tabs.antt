@@ -11,9 +11,6 @@ use lib.ListN.{length, take, drop, get_or, drop_of_length-le}
 use lib.Seq.{drop-cons, drop-drop, drop-length, length-take-le}
 use lib.Dec.{ltb, eqb, leb-suc-suc}
 use borrow.Author.Tests.{lt-ltb, ltb-false}
-use Rattle.std.specs.Prelude.{◌==◌}
-use Rattle.std.specs.List.{count_by as counted_by}
-use Rattle.std.proofs.lemmas.List.Recursion.{is_count_by}
 use Rattle.buffers.specs.Text.{place_of}
 use Rattle.buffers.proofs.FirstPlace.{place_le}
 use Rattle.fields.specs.Fields.{tab, fields, field_at, on_first, argument_count}
@@ -80,14 +77,14 @@ pub field_missing : (t : List ℕ) (n k : ℕ) → 0 < k → n ≡ tab_at t → 
 field_missing t n zero h e l = absurd (omega arith)
 field_missing t n (suc k) h e l = field_next t k ∙ rw (drop_of_length-le t {i = tab_at t + 1} (omega arith)) (empty k)
 
--- the tabs, in the library's words
-chosen : (t : Bool) (n : ℕ) → cond t 1 0 + n ≡ cond t (1 + n) n
-chosen true n = refl
-chosen false n = zero-add n
-
-pub count_tabs : (s : List ℕ) → argument_count s ≡ counted_by (λ x. x == tab) s
+-- a byte more is counted
+pub count_step : (s : List ℕ) (i x : ℕ) → i < length s → x ≡ cond (eqb (get_or s i 0) 9) 1 0 → argument_count (drop i s) ≡ x + argument_count (drop (i + 1) s)
 unfolding argument_count
-count_tabs s = is_count_by argument_count (λ x. x == tab) refl (λ x xs. chosen (eqb x tab) (argument_count xs)) s
+count_step s i x h e = rw (e, drop-cons s i 0 h, add-one)
+
+pub count_end : (s : List ℕ) → argument_count (drop (length s) s) ≡ 0
+unfolding argument_count
+count_end s = rw drop-length
 
 count_by : (b : Bool) (x : ℕ) (xs : List ℕ)
     → argument_count xs ≡ cond (ltb (tab_at xs) (length xs)) 1 0 + argument_count (drop (suc (tab_at xs)) xs)
