@@ -79,6 +79,7 @@ fn lanes_fault(s: &[u8], p: usize, n: usize, w: usize, b: u8) -> Faulty
     let mut left = n;
     let mut due = w;
     let mut i: usize = 0;
+    // No `for`: a turn takes four bytes or one.
     while i < s.len() {
         if four_at(&table, s, i, due, b) {
             due -= 4;

@@ -27,7 +27,7 @@ pub fn after(t: &[u8], n: usize) -> &[u8]
     if n < t.len() { &t[n + 1..] } else { &t[0..0] }
 }
 
-// 1 where a test holds, 0 where it fails.
+// 1 where a test holds, 0 where it fails: std has no `From<bool>` for numbers.
 pub fn one_if(test: bool) -> usize
     ensures { (result ≡ cond test 1 0) × (result ≤ 1) }
 {

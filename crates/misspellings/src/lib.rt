@@ -61,6 +61,7 @@ pub fn line_fault(line: &[u8], end: usize, cast: bool) -> Misspelling
 {
     let mut tab = end;
     let mut typed = cast;
+    // No `for`: a turn takes a whole field, and the place of the next tab is what the fault is told by.
     while tab < line.len() {
         let rest = &line[tab + 1..];
         let n = buffers::find(rest, b'\t');
