@@ -88,6 +88,11 @@ pub fn head_of(s: &[u8], at: usize, first: bool) -> Option<Head>
 
 // ---- arguments and calls
 
+// The mark that closes a call, and the one that parts its arguments.
+const CLOSING: u8 = b')';
+
+const PARTING: u8 = b';';
+
 // An argument: a spelling, or a call.
 #[cycle(argument_call_rest)]
 fn argument(s: &[u8], at: usize, first: bool) -> Option<Reached>
@@ -116,13 +121,13 @@ fn rest(s: &[u8], given: Reached) -> Option<Reached>
     ensures { result ≡ rest_at s.now given.end given.depth }
 {
     let mark = byte_at(s, given.end);
-    if mark == b')' {
+    if mark == CLOSING {
         return Some(Reached {
             end: given.end + 1,
             depth: given.depth + 1,
         });
     }
-    if mark == b';' {
+    if mark == PARTING {
         let others = call(s, given.end, false)?;
         return Some(Reached {
             end: others.end,

@@ -32,8 +32,8 @@ call-returns-in_err-argument t c = c.from_residual.ensures ∙ call_given _ _ _ 
 pub call-returns : goal.call-returns
 call-returns t c = c.rest.ensures ∙ call_given _ _ _ _ _ c.argument.ensures c.in_ok-argument.was
 
-pub rest-returns-then-mark-eq41 : goal.rest-returns-then-mark-eq41
-rest-returns-then-mark-eq41 t c = rest_closed _ _ _ _ c.byte_at-mark.ensures c.if-mark-eq41.true
+pub rest-returns-then-mark-eq-CLOSING : goal.rest-returns-then-mark-eq-CLOSING
+rest-returns-then-mark-eq-CLOSING t c = rest_closed _ _ _ _ c.byte_at-mark.ensures c.if-mark-eq-CLOSING.true
 
 pub rest-call-requires : goal.rest-call-requires
 rest-call-requires t c =
@@ -42,11 +42,11 @@ rest-call-requires t c =
 
 pub rest-returns-in_err-others : goal.rest-returns-in_err-others
 rest-returns-in_err-others t c =
-    c.from_residual.ensures ∙ rest_more _ _ _ _ c.byte_at-mark.ensures c.if-mark-eq41.false c.if-mark-eq59.true _ _ c.call.ensures c.in_err-others.was
+    c.from_residual.ensures ∙ rest_more _ _ _ _ c.byte_at-mark.ensures c.if-mark-eq-CLOSING.false c.if-mark-eq-PARTING.true _ _ c.call.ensures c.in_err-others.was
 
-pub rest-returns-then-mark-eq59 : goal.rest-returns-then-mark-eq59
-rest-returns-then-mark-eq59 t c =
-    rw c.max.ensures (rest_more _ _ _ _ c.byte_at-mark.ensures c.if-mark-eq41.false c.if-mark-eq59.true _ _ c.call.ensures c.in_ok-others.was)
+pub rest-returns-then-mark-eq-PARTING : goal.rest-returns-then-mark-eq-PARTING
+rest-returns-then-mark-eq-PARTING t c =
+    rw c.max.ensures (rest_more _ _ _ _ c.byte_at-mark.ensures c.if-mark-eq-CLOSING.false c.if-mark-eq-PARTING.true _ _ c.call.ensures c.in_ok-others.was)
 
 pub rest-returns : goal.rest-returns
-rest-returns t c = rest_wrong _ _ _ _ c.byte_at-mark.ensures c.if-mark-eq41.false c.if-mark-eq59.false
+rest-returns t c = rest_wrong _ _ _ _ c.byte_at-mark.ensures c.if-mark-eq-CLOSING.false c.if-mark-eq-PARTING.false
