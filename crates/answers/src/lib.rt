@@ -44,7 +44,7 @@ pub fn put_answer(out: &mut [u8], refusal: u8, a: &[u64]) -> LineAnswer
 {
     if refusal != 0 {
         return LineAnswer {
-            refusal: refusal,
+            refusal,
             len: 0,
             place: 0,
         };
@@ -61,7 +61,7 @@ pub fn put_answer(out: &mut [u8], refusal: u8, a: &[u64]) -> LineAnswer
     let len = put_second(out, next, a);
     LineAnswer {
         refusal: 0,
-        len: len,
+        len,
         place: 0,
     }
 }

@@ -3,11 +3,11 @@
 
 ghost use Rattle.std.specs.Prelude.{◌≡◌, ◌+◌, ◌^◌, ◌≤◌, ◌<◌, true, length, take, drop};
 ghost use Rattle.values.specs.Value.{kind_at};
-ghost use Rattle.spelling.specs.Hex.{digit_bound, digits_below, DigitTable};
+ghost use Rattle.spelling.specs.Hex.{digit_bound, digits_below};
 ghost use Rattle.spelling.specs.Read.{fault_number, at_end, lanes_at, read_lanes, read_value};
 ghost use Rattle.faults.specs.Program.{faulty, fault_of, told_of};
 
-use spelling::Fault;
+use spelling::{Digits, Fault};
 use values::Scalar;
 
 // What is wrong with a spelling, and at which place from 1.
@@ -32,10 +32,7 @@ pub fn fault_number(f: Fault) -> u8
 fn fault_at(fault: Fault, place: usize) -> Faulty
     ensures { result ≡ faulty fault place }
 {
-    Faulty {
-        fault: fault,
-        place: place,
-    }
+    Faulty { fault, place }
 }
 
 // The first digit that a lane cannot have.
@@ -44,16 +41,13 @@ fn digit_bound(s: Scalar) -> u8
 {
     match s {
         Scalar::Boolean => 2,
-        Scalar::I32 => 16,
-        Scalar::U32 => 16,
-        Scalar::F32 => 16,
-        Scalar::F16 => 16,
+        Scalar::I32 | Scalar::U32 | Scalar::F32 | Scalar::F16 => 16,
     }
 }
 
 // Whether four digits below b stand at i, where as many are due in the lane; a bool's lane has fewer.
-fn four_at(table: &[u8; 256], s: &[u8], i: usize, due: usize, b: u8) -> bool
-    requires { DigitTable table.now × (i ≤ length s.now) }
+fn four_at(table: &Digits, s: &[u8], i: usize, due: usize, b: u8) -> bool
+    requires { (i ≤ length s.now) }
     ensures { result ≡ true → (4 ≤ due) × (i + 4 ≤ length s.now) × (digits_below b (take 4 (drop i s.now)) ≡ true) }
 {
     if (4 <= due) & (b == 16) & (4 <= s.len() - i) {
@@ -85,6 +79,7 @@ fn lanes_fault(s: &[u8], p: usize, n: usize, w: usize, b: u8) -> Faulty
     let mut left = n;
     let mut due = w;
     let mut i: usize = 0;
+    // No `for`: a turn takes four bytes or one.
     while i < s.len() {
         if four_at(&table, s, i, due, b) {
             due -= 4;
@@ -104,7 +99,7 @@ fn lanes_fault(s: &[u8], p: usize, n: usize, w: usize, b: u8) -> Faulty
             i += 1;
             continue;
         }
-        if b <= spelling::digit(&table, x) {
+        if b <= table.digit(x) {
             return fault_at(Fault::Digit, p + i);
         }
         due -= 1;

@@ -46,11 +46,9 @@ pub fn put_lanes(out: &mut [u8], at: usize, n: usize, w: usize, lanes: &[u64]) -
 {
     let mut next = at;
     let mut before = b':';
-    let mut k: usize = 0;
-    while k < n {
+    for k in 0..n {
         next = put_lane(out, next, before, w, lanes[k]);
         before = b',';
-        k += 1;
     }
     next
 }

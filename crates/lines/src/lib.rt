@@ -5,7 +5,6 @@ ghost use Rattle.std.specs.Prelude.{◌≡◌, ◌≤◌, length};
 ghost use Rattle.buffers.specs.Memory.{put};
 ghost use Rattle.calls.specs.Table.{builtin_at};
 ghost use Rattle.calls.specs.Words as Words;
-ghost use Rattle.spelling.specs.Hex.{DigitTable};
 ghost use Rattle.fields.specs.Fields.{field_at, argument_count};
 ghost use Rattle.lines.specs.Line.{cast_call, plain_call, is_cast, call_of, line_answer, written_in};
 ghost use Rattle.lines.specs.Program.{misspelled_line};
@@ -14,12 +13,13 @@ use answers::LineAnswer;
 use cutting::MOST_BYTES;
 use engines::Engine;
 use readings::Reading;
+use spelling::Digits;
 
 // ---- the call that a line spells, as words
 
 // The words of bitcast's call on a line of that name, whose first argument is a type.
-fn put_cast(w: &mut [u64], table: &[u8; 256], builtin: u64, line: &[u8])
-    requires { (length w.old ≡ 54) × DigitTable table.now }
+fn put_cast(w: &mut [u64], table: &Digits, builtin: u64, line: &[u8])
+    requires { length w.old ≡ 54 }
     ensures { Words.call_of w.new ≡ cast_call (builtin_at builtin) (argument_count line.now) line.now }
 {
     let name = fields::field(line, 0);
@@ -37,8 +37,8 @@ fn put_cast(w: &mut [u64], table: &[u8; 256], builtin: u64, line: &[u8])
 }
 
 // The words of any other builtin's. Each value is read off what the one before it left; one that is shorter than what it was read off ends in a tab.
-fn put_plain(w: &mut [u64], table: &[u8; 256], builtin: u64, line: &[u8], name: &[u8])
-    requires { (length w.old ≡ 54) × DigitTable table.now × (name.now ≡ field_at line.now 0) }
+fn put_plain(w: &mut [u64], table: &Digits, builtin: u64, line: &[u8], name: &[u8])
+    requires { (length w.old ≡ 54) × (name.now ≡ field_at line.now 0) }
     ensures { Words.call_of w.new ≡ plain_call (builtin_at builtin) (argument_count line.now) line.now }
 {
     let t1 = fields::after(line, name.len());

@@ -15,10 +15,7 @@ pub struct Misspelling {
 pub fn misspelled(refusal: u8, place: usize) -> Misspelling
     ensures { result ≡ misspelled refusal place }
 {
-    Misspelling {
-        refusal: refusal,
-        place: place,
-    }
+    Misspelling { refusal, place }
 }
 
 // ---- a field
@@ -37,8 +34,7 @@ fn value_fault(s: &[u8]) -> Misspelling
     ensures { result ≡ value_fault s.now }
 {
     let f = faults::fault_in(s);
-    let fault = f.fault;
-    misspelled(faults::fault_number(fault), f.place)
+    misspelled(faults::fault_number(f.fault), f.place)
 }
 
 // What is wrong with a field, a type where `cast` and else a value.
@@ -65,6 +61,7 @@ pub fn line_fault(line: &[u8], end: usize, cast: bool) -> Misspelling
 {
     let mut tab = end;
     let mut typed = cast;
+    // No `for`: a turn takes a whole field, and the place of the next tab is what the fault is told by.
     while tab < line.len() {
         let rest = &line[tab + 1..];
         let n = buffers::find(rest, b'\t');

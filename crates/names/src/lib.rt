@@ -1,11 +1,11 @@
 // The builtins' names, read.
 #![tactic(auto)]
 
-ghost use Rattle.std.specs.Prelude.{◌≡◌, ◌-◌, ◌<◌};
+ghost use Rattle.std.specs.Prelude.{◌≡◌, ◌<◌, length};
 ghost use Rattle.calls.specs.Table.{builtin_at};
 ghost use Rattle.buffers.specs.Text.{same_bytes};
 ghost use Rattle.names.specs.Names.{name_of, builtin_of};
-ghost use Rattle.names.specs.Program.{start, slot, place};
+ghost use Rattle.names.specs.Program.{start, byte_back, slot, place};
 
 // The names of the builtins, one after another, and where each starts by the builtin's number; Unknown's, the first, is empty.
 const TEXT: [u8; 345] =
@@ -23,37 +23,26 @@ const PLACES: [u8; 128] =
 // A slot that no name has.
 const FREE: usize = 127;
 
-fn wide(x: u8) -> usize
-    ensures { (result ≡ x) × (result < 256) }
-{
-    x as usize
-}
-
-fn wide_start(x: u16) -> usize
-    ensures { result ≡ x }
-{
-    x as usize
-}
-
 fn start_of(i: usize) -> usize
     requires { i < 42 }
     ensures { result ≡ start i }
 {
-    wide_start(STARTS[i])
+    usize::from(STARTS[i])
 }
 
 fn place_at(h: usize) -> usize
     requires { h < 128 }
     ensures { (result ≡ place h) × (result < 41) }
 {
-    wide(PLACES[h])
+    usize::from(PLACES[h])
 }
 
-// A place k from the end of n bytes, or the first.
-fn back(n: usize, k: usize) -> usize
-    ensures { result ≡ n - k }
+// The byte k places from the end, or the first.
+fn byte_back(s: &[u8], k: usize) -> usize
+    requires { (0 < k) × (0 < length s.now) }
+    ensures { (result ≡ byte_back k s.now) × (result < 256) }
 {
-    if n < k { 0 } else { n - k }
+    usize::from(s[s.len().saturating_sub(k)])
 }
 
 // The slot of a name. The places and the factors were found by trial: with them no two names share a slot.
@@ -64,7 +53,7 @@ fn slot_of(s: &[u8]) -> usize
     if n < 3 {
         return FREE;
     }
-    (2 * (n % 64) + wide(s[n - 2]) + 9 * wide(s[back(n, 5)]) + 3 * wide(s[back(n, 7)])) % 128
+    (2 * (n % 64) + byte_back(s, 2) + 9 * byte_back(s, 5) + 3 * byte_back(s, 7)) % 128
 }
 
 // Whether s is the name of the builtin of a number.

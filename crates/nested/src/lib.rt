@@ -1,11 +1,11 @@
 // Calls nested on one line, folded: those among the arguments first, from left to right, then the call itself.
 #![tactic(auto)]
 
-ghost use Rattle.std.specs.Prelude.{◌≡◌, ◌+◌, ◌-◌, ◌<◌, ◌≤◌, length, take, drop};
+ghost use Rattle.std.specs.Prelude.{◌≡◌, ◌+◌, ◌-◌, ◌<◌, ◌≤◌, length, take, drop, Some};
 ghost use Rattle.misspellings.specs.Misspellings.{rightly};
 ghost use Rattle.nesting.specs.Read.{refusal_of};
 ghost use Rattle.nested.specs.Nested.{refused_at, told, of_call, spelled_type, spelled_value, spelled, handed, first_of, alone, joined, call_by, judged, nested_of};
-ghost use Rattle.nested.specs.Program.{one_of, no_one, all_of, no_all, called_of, joined_of, one_at, all_at, rest_at};
+ghost use Rattle.nested.specs.Program.{called_of, outermost_of, one_at, all_at, rest_at};
 
 use builtins::Answer;
 use calls::Call;
@@ -46,17 +46,9 @@ pub struct Folded {
 
 // What was read, and where it ends.
 #[derive(Clone, Copy)]
-pub struct One {
-    pub ok: bool,
+pub struct Ended<T> {
+    pub given: T,
     pub end: usize,
-    pub given: Argument,
-}
-
-#[derive(Clone, Copy)]
-pub struct All {
-    pub ok: bool,
-    pub end: usize,
-    pub given: Arguments,
 }
 
 // ---- what a call gives
@@ -92,41 +84,32 @@ fn tell(x: Answer, fault: Misspelling) -> Folded
 fn call_by(w: &[u8], g: Arguments) -> Call
     ensures { result ≡ call_by w.now g }
 {
-    let builtin = calls::builtin_at(names::number_of(w));
-    let target = g.target;
-    let a = g.a;
+    let call = Call {
+        builtin: calls::builtin_at(names::number_of(w)),
+        count: g.count,
+        target: g.target,
+        a: g.a,
+        b: g.b,
+        c: g.c,
+    };
     if buffers::same(b"bitcast", w) {
         return Call {
-            builtin: builtin,
-            count: g.count,
-            target: target,
-            a: a,
             b: values::empty(),
             c: values::empty(),
+            ..call
         };
     }
-    let b = g.b;
-    let c = g.c;
-    Call {
-        builtin: builtin,
-        count: g.count,
-        target: target,
-        a: a,
-        b: b,
-        c: c,
-    }
+    call
 }
 
 // What the call gives; one among its arguments that is refused refuses it.
 fn judge(reading: Reading, engine: Engine, w: &[u8], g: Arguments) -> Folded
     ensures { result ≡ judged reading w.now g }
 {
-    let m = g.refused;
-    if m.refusal != 0 {
-        return refused_at(m.refusal, m.place);
+    if g.refused.refusal != 0 {
+        return refused_at(g.refused.refusal, g.refused.place);
     }
-    let fault = g.fault;
-    tell(records::fold_in(reading, engine, call_by(w, g)), fault)
+    tell(records::fold_in(reading, engine, call_by(w, g)), g.fault)
 }
 
 // ---- an argument
@@ -156,12 +139,13 @@ fn of_call(m: Misspelling, v: Value) -> Argument
 fn handed_by(w: &[u8], x: Folded) -> Argument
     ensures { result ≡ handed w.now x }
 {
-    let a = x.answer;
-    if buffers::same(b"frexp", w) & (a.refusal == 0) {
+    if buffers::same(b"frexp", w) & (x.answer.refusal == 0) {
         return of_call(misspellings::misspelled(4, 0), values::empty());
     }
-    let v = a.first;
-    of_call(misspellings::misspelled(a.refusal, x.place), v)
+    of_call(
+        misspellings::misspelled(x.answer.refusal, x.place),
+        x.answer.first,
+    )
 }
 
 // A type's spelling, which starts after `at` bytes of the line.
@@ -184,15 +168,13 @@ fn spelled_value(w: &[u8], at: usize) -> Argument
     ensures { result ≡ spelled_value at w.now }
 {
     let x = reading::read_value(w);
-    let f = x.fault;
-    let v = x.value;
-    let m = misspellings::misspelled(faults::fault_number(f), x.place);
+    let m = misspellings::misspelled(faults::fault_number(x.fault), x.place);
     Argument {
         typed: false,
         refused: rightly_spelled(),
         fault: misspellings::in_line(at + 1, m),
         kind: Kind::Empty,
-        value: v,
+        value: x.value,
     }
 }
 
@@ -209,16 +191,12 @@ fn first_of(m: Misspelling, n: Misspelling) -> Misspelling
 fn alone_of(x: Argument) -> Arguments
     ensures { result ≡ alone x }
 {
-    let m = x.refused;
-    let f = x.fault;
-    let k = x.kind;
-    let v = x.value;
     Arguments {
-        refused: m,
-        fault: first_of(f, rightly_spelled()),
+        refused: x.refused,
+        fault: first_of(x.fault, rightly_spelled()),
         count: 1,
-        target: k,
-        a: v,
+        target: x.kind,
+        a: x.value,
         b: values::empty(),
         c: values::empty(),
     }
@@ -229,136 +207,85 @@ fn with_first(x: Argument, g: Arguments) -> Arguments
     requires { g.count ≤ 400 }
     ensures { result ≡ joined x g }
 {
-    let m = x.refused;
-    let n = g.refused;
-    let refused = first_of(m, n);
-    let p = x.fault;
-    let q = g.fault;
-    let fault = first_of(p, q);
-    let a = g.a;
-    let b = g.b;
+    let refused = first_of(x.refused, g.refused);
+    let fault = first_of(x.fault, g.fault);
+    let count = g.count + 1;
     if x.typed {
-        let k = x.kind;
-        let c = g.c;
         return Arguments {
-            refused: refused,
-            fault: fault,
-            count: g.count + 1,
-            target: k,
-            a: a,
-            b: b,
-            c: c,
+            refused,
+            fault,
+            count,
+            target: x.kind,
+            ..g
         };
     }
-    let k = g.target;
-    let v = x.value;
     Arguments {
-        refused: refused,
-        fault: fault,
-        count: g.count + 1,
-        target: k,
-        a: v,
-        b: a,
-        c: b,
+        refused,
+        fault,
+        count,
+        a: x.value,
+        b: g.a,
+        c: g.b,
+        ..g
     }
 }
 
 // ---- what is read
 
-fn one_of(x: Argument, e: usize) -> One
-    ensures { result ≡ one_of x e }
-{
-    One {
-        ok: true,
-        end: e,
-        given: x,
-    }
-}
-
-fn no_one() -> One
-    ensures { result ≡ no_one }
-{
-    One {
-        ok: false,
-        end: 0,
-        given: of_call(rightly_spelled(), values::empty()),
-    }
-}
-
-fn no_all() -> All
-    ensures { result ≡ no_all }
-{
-    All {
-        ok: false,
-        end: 0,
-        given: alone_of(of_call(rightly_spelled(), values::empty())),
-    }
-}
-
-fn closed(x: Argument, e: usize) -> All
-    ensures { result ≡ all_of (alone x) e }
-{
-    All {
-        ok: true,
-        end: e,
-        given: alone_of(x),
-    }
-}
-
-fn join(x: Argument, r: All) -> All
-    requires { r.given.count ≤ 400 }
-    ensures { result ≡ joined_of x r }
-{
-    if r.ok {
-        let g = r.given;
-        return All {
-            ok: true,
-            end: r.end,
-            given: with_first(x, g),
-        };
-    }
-    no_all()
-}
-
-fn spelled_at(s: &[u8], at: usize, e: usize, cast: bool) -> One
+fn spelled_at(s: &[u8], at: usize, e: usize, cast: bool) -> Argument
     requires { (at < e) × (e ≤ length s.now) × (length s.now ≤ 400) }
-    ensures { result ≡ one_of (spelled cast at (take (e - at) (drop at s.now))) e }
+    ensures { result ≡ spelled cast at (take (e - at) (drop at s.now)) }
 {
     let w = &s[at..e];
     if cast {
-        return one_of(spelled_type(w, at), e);
+        spelled_type(w, at)
+    } else {
+        spelled_value(w, at)
     }
-    one_of(spelled_value(w, at), e)
 }
 
-fn called(reading: Reading, engine: Engine, w: &[u8], r: All) -> One
-    ensures { result ≡ called_of reading w.now r }
+fn called(reading: Reading, engine: Engine, w: &[u8], g: Arguments) -> Argument
+    ensures { result ≡ handed w.now (judged reading w.now g) }
 {
-    if r.ok {
-        let g = r.given;
-        return one_of(handed_by(w, judge(reading, engine, w, g)), r.end);
-    }
-    no_one()
+    handed_by(w, judge(reading, engine, w, g))
 }
 
-fn called_at(reading: Reading, engine: Engine, s: &[u8], at: usize, e: usize, r: All) -> One
+// What the call of a name gives that stands from `at` up to e, with where its arguments end.
+fn called_at(
+    reading: Reading,
+    engine: Engine,
+    s: &[u8],
+    at: usize,
+    e: usize,
+    r: Option<Ended<Arguments>>,
+) -> Option<Ended<Argument>>
     requires { (at < e) × (e < length s.now) }
     ensures { result ≡ called_of reading (take (e - at) (drop at s.now)) r }
 {
-    called(reading, engine, &s[at..e], r)
+    let x = r?;
+    let given = called(reading, engine, &s[at..e], x.given);
+    Some(Ended { given, end: x.end })
 }
 
 // ---- arguments and calls of a line
 
 // An argument: a spelling, or a call.
 #[cycle(fold_argument_fold_call_fold_rest)]
-fn fold_argument(reading: Reading, engine: Engine, s: &[u8], at: usize, first: bool) -> One
+fn fold_argument(
+    reading: Reading,
+    engine: Engine,
+    s: &[u8],
+    at: usize,
+    first: bool,
+) -> Option<Ended<Argument>>
     requires { (at ≤ length s.now) × (length s.now ≤ 400) }
     ensures { result ≡ one_at reading first s.now at }
 {
-    match nesting::head_of(s, at, first) {
-        Head::Bad => no_one(),
-        Head::Spelling(e) => spelled_at(s, at, e, first),
+    match nesting::head_of(s, at, first)? {
+        Head::Spelling(e) => Some(Ended {
+            given: spelled_at(s, at, e, first),
+            end: e,
+        }),
         Head::Call(bracket, bitcast) => called_at(
             reading,
             engine,
@@ -372,54 +299,72 @@ fn fold_argument(reading: Reading, engine: Engine, s: &[u8], at: usize, first: b
 
 // The arguments of a call from its opening bracket on, or from a semicolon.
 #[cycle(fold_argument_fold_call_fold_rest)]
-fn fold_call(reading: Reading, engine: Engine, s: &[u8], at: usize, first: bool) -> All
+fn fold_call(
+    reading: Reading,
+    engine: Engine,
+    s: &[u8],
+    at: usize,
+    first: bool,
+) -> Option<Ended<Arguments>>
     requires { (at < length s.now) × (length s.now ≤ 400) }
     ensures { result ≡ all_at reading first s.now at }
 {
-    let t = fold_argument(reading, engine, s, at + 1, first);
-    if t.ok {
-        let x = t.given;
-        let e = t.end;
-        return fold_rest(reading, engine, s, x, e);
-    }
-    no_all()
+    let x = fold_argument(reading, engine, s, at + 1, first)?;
+    fold_rest(reading, engine, s, x)
 }
 
 // The arguments of a call from the end of one on.
 #[cycle(fold_argument_fold_call_fold_rest)]
-fn fold_rest(reading: Reading, engine: Engine, s: &[u8], x: Argument, e: usize) -> All
+fn fold_rest(
+    reading: Reading,
+    engine: Engine,
+    s: &[u8],
+    x: Ended<Argument>,
+) -> Option<Ended<Arguments>>
     requires { length s.now ≤ 400 }
-    ensures { result ≡ rest_at reading s.now x e }
+    ensures { result ≡ rest_at reading s.now x.given x.end }
 {
-    let mark = nesting::byte_at(s, e);
+    let mark = nesting::byte_at(s, x.end);
     if mark == b')' {
-        return closed(x, e + 1);
+        return Some(Ended {
+            given: alone_of(x.given),
+            end: x.end + 1,
+        });
     }
     if mark == b';' {
-        return join(x, fold_call(reading, engine, s, e, false));
+        let others = fold_call(reading, engine, s, x.end, false)?;
+        return Some(Ended {
+            given: with_first(x.given, others.given),
+            end: others.end,
+        });
     }
-    no_all()
+    None
 }
 
 // ---- a line
 
 // The outermost call, whose name ends at e.
-fn outermost(reading: Reading, engine: Engine, s: &[u8], e: usize, r: All) -> Folded
+fn outermost(
+    reading: Reading,
+    engine: Engine,
+    s: &[u8],
+    e: usize,
+    r: Option<Ended<Arguments>>,
+) -> Option<Folded>
     requires { e ≤ length s.now }
-    ensures { result ≡ judged reading (take e s.now) r.given }
+    ensures { result ≡ outermost_of reading (take e s.now) r }
 {
-    let g = r.given;
-    judge(reading, engine, &s[0..e], g)
+    let x = r?;
+    Some(judge(reading, engine, &s[..e], x.given))
 }
 
 // A line that the grammar takes.
-fn fold_whole(reading: Reading, engine: Engine, line: &[u8]) -> Folded
+fn fold_whole(reading: Reading, engine: Engine, line: &[u8]) -> Option<Folded>
     requires { (length line.now ≤ 400) × (refusal_of line.now ≡ 0) }
-    ensures { result ≡ nested_of reading line.now }
+    ensures { result ≡ Some (nested_of reading line.now) }
 {
-    match nesting::head_of(line, 0, false) {
-        Head::Bad => refused_at(12, 0),
-        Head::Spelling(_) => refused_at(12, 0),
+    match nesting::head_of(line, 0, false)? {
+        Head::Spelling(_) => None,
         Head::Call(bracket, bitcast) => outermost(
             reading,
             engine,
@@ -439,5 +384,5 @@ pub fn fold(reading: Reading, engine: Engine, line: &[u8]) -> Folded
     if n != 0 {
         return refused_at(n, 0);
     }
-    fold_whole(reading, engine, line)
+    fold_whole(reading, engine, line).unwrap_or(refused_at(12, 0))
 }

@@ -3,7 +3,8 @@
 use Prim.Native.Nat.{ℕ, ◌+◌}
 use mathlib.Core.Bool.{Bool, true, false, cond}
 use mathlib.Core.List.{List, [], ◌∷◌}
-use mathlib.Core.Option.{Option, none, some}
+use mathlib.Core.Option.{Option as Maybe, none, some}
+use Rattle.std.specs.Prelude.{Option, Some, None}
 use mathlib.Core.Path.{◌≡◌, refl, ap, sym, ◌∙◌}
 use native.Mathlib.Omega.{arith}
 use lib.Dec.{eqb}
@@ -56,18 +57,18 @@ pub record Pass (A R S : Type 0) : Type 0 where
   pub from_one : (k : A → ℕ → S) (x : A) (e : ℕ) → from k (one x e) ≡ k x e
 
 module _ {A R S : Type 0} (p : Pass A R S) where
-  abbrev one_of : Bool → ℕ → Option Tree → R
+  abbrev one_of : Bool → ℕ → Maybe Tree → R
   one_of first at o = read_as text p.wrong (λ b t e. p.one (p.of first b t) e) at o
 
-  abbrev all_of : Bool → ℕ → Option Trees → S
+  abbrev all_of : Bool → ℕ → Maybe Trees → S
   all_of first at o = read_as texts p.no_arguments (p.all first) at o
 
-  a_call_lem : (first : Bool) (at e : ℕ) (w : List ℕ) (o : Option Trees) → at + length w ≡ e → one_of first at (a_call w o) ≡ p.called w (all_of (is_bitcast w) (e + 1) o)
+  a_call_lem : (first : Bool) (at e : ℕ) (w : List ℕ) (o : Maybe Trees) → at + length w ≡ e → one_of first at (a_call w o) ≡ p.called w (all_of (is_bitcast w) (e + 1) o)
   a_call_lem first at e w none q = sym (p.called_none w)
   a_call_lem first at e w (some a) q =
       rw (call_end at e w a q, ← q) (sym (p.called_all first at w a (at + length w + 1 + length (texts a))))
 
-  and_next_lem : (first : Bool) (at e : ℕ) (t : Tree) (o : Option Trees) → at + length (text t) ≡ e
+  and_next_lem : (first : Bool) (at e : ℕ) (t : Tree) (o : Maybe Trees) → at + length (text t) ≡ e
       → all_of first at (and_next t o) ≡ p.joined (p.of first at t) (all_of false (e + 1) o)
   and_next_lem first at e t none q = sym (p.joined_none (p.of first at t))
   and_next_lem first at e t (some a) q =
@@ -81,23 +82,23 @@ module _ {A R S : Type 0} (p : Pass A R S) where
     abbrev pub all_at : Bool → ℕ → S
     all_at first at = all_of first (at + 1) (trees_of first (drop (at + 1) s))
 
-    abbrev pub by_head : Bool → ℕ → Head → R
-    by_head first at Head.Bad = p.wrong
-    by_head first at (Head.Spelling e) = p.one (p.of first at (spelling (part s at e))) e
-    by_head first at (Head.Call e b) = p.called (part s at e) (all_at b e)
+    abbrev pub by_head : Bool → ℕ → Option Head → R
+    by_head first at None = p.wrong
+    by_head first at (Some (Head.Spelling e)) = p.one (p.of first at (spelling (part s at e))) e
+    by_head first at (Some (Head.Call e b)) = p.called (part s at e) (all_at b e)
 
     -- a call from the end of an argument on
     abbrev pub rest_at : A → ℕ → S
     rest_at x e = cond (eqb (get_or s e 0) 41) (p.closed x (e + 1)) (cond (eqb (get_or s e 0) 59) (p.joined x (all_at false e)) p.no_arguments)
 
-    head_step : (first : Bool) (at : ℕ) (h : Head) → Within s at h → one_of first at (tree_by s at h) ≡ by_head first at h
+    head_step : (first : Bool) (at : ℕ) (h : Option Head) → Within s at h → one_of first at (tree_by s at h) ≡ by_head first at h
     unfolding text
-    head_step first at Head.Bad i = refl
-    head_step first at (Head.Spelling e) i = ap (p.one (p.of first at (spelling (part s at e)))) (part_length s at e (omega (arith, i.0)) i.1)
-    head_step first at (Head.Call e b) i =
+    head_step first at None i = refl
+    head_step first at (Some (Head.Spelling e)) i = ap (p.one (p.of first at (spelling (part s at e)))) (part_length s at e (omega (arith, i.0)) i.1)
+    head_step first at (Some (Head.Call e b)) i =
         rw i.2 (a_call_lem first at e (part s at e) (trees_of (is_bitcast (part s at e)) (drop (e + 1) s)) (part_length s at e (omega (arith, i.0)) (omega (arith, i.1))))
 
-    first_step : (first : Bool) (at : ℕ) (o : Option Tree) → all_of first at (arguments_by trees_of (drop at s) o) ≡ p.from rest_at (one_of first at o)
+    first_step : (first : Bool) (at : ℕ) (o : Maybe Tree) → all_of first at (arguments_by trees_of (drop at s) o) ≡ p.from rest_at (one_of first at o)
     first_step first at none = sym (p.from_wrong rest_at)
     first_step first at (some t) =
         rw (get_or-drop at s (length (text t)) 0) (by (eqb (get_or s (at + length (text t)) 0) 41) (eqb (get_or s (at + length (text t)) 0) 59))
@@ -112,7 +113,7 @@ module _ {A R S : Type 0} (p : Pass A R S) where
         by false false = refl
 
     -- by the head h and the argument r that the program holds
-    pub argument_given : (first : Bool) (at : ℕ) (h k : Head) → h ≡ head_at first s at → h ≡ k → by_head first at k ≡ one_at first at
+    pub argument_given : (first : Bool) (at : ℕ) (h k : Option Head) → h ≡ head_at first s at → h ≡ k → by_head first at k ≡ one_at first at
     argument_given first at h k u v =
         let e = sym u ∙ v in
         sym (ap (one_of first at) (tree_by_head first s at ∙ ap (tree_by s at) e) ∙ head_step first at k (rw e at (head_within first s at)))

@@ -1,33 +1,31 @@
 -- The word that a text starts with, byte by byte, and what stands after it. Assumes nothing.
 use Prim.Native.Nat.{ℕ, zero, suc, ◌+◌, ◌<◌, ◌≤◌}
-use mathlib.Core.Bool.{Bool, true, false, cond, false≢true}
+use mathlib.Core.Bool.{Bool, true, false, cond, ◌&&◌, false≢true}
 use mathlib.Core.List.{List, [], ◌∷◌, ◌++◌}
 use mathlib.Core.Path.{◌≡◌, refl, ap, sym, ◌∙◌}
-use native.Mathlib.Numerals.{add-one}
 use native.Mathlib.Omega.{arith}
 use lib.Dec.{ltb}
-use lib.ListN.{length, take, drop, get_or, take-append-drop, drop_of_length-le}
-use lib.Seq.{drop-cons}
+use lib.ListN.{length, take, drop, get_or, take-append-drop, length-append}
 use borrow.Author.Tests.{ltb-true, ltb-false}
 use Rattle.values.specs.Value.{every}
 use Rattle.nesting.specs.Grammar.{plain, one_or_more}
 use Rattle.nesting.specs.Read.{first_word}
-use Rattle.nesting.specs.Program.{word_end}
+use Rattle.std.specs.List.{prefix_len, list_all}
 
--- ---- its end
+-- ---- in the library's words
 
-module _ (s : List ℕ) (i : ℕ) where
-  pub word_stops : i < length s → plain (get_or s i 0) ≡ false → word_end s i ≡ i
-  unfolding first_word word_end
-  word_stops h e = rw (drop-cons s i 0 h, e) (omega arith)
+pub first_word_taken : (l : List ℕ) → length (first_word l) ≡ prefix_len plain l
+unfolding first_word
+first_word_taken [] = refl
+first_word_taken (x ∷ l) = by (plain x) (first_word_taken l)
+  where
+    by : (t : Bool) → length (first_word l) ≡ prefix_len plain l → length (cond t (x ∷ first_word l) []) ≡ cond t (1 + prefix_len plain l) 0
+    by true e = omega (arith, e)
+    by false e = refl
 
-  pub word_goes_on : i < length s → plain (get_or s i 0) ≡ true → word_end s i ≡ word_end s (i + 1)
-  unfolding first_word word_end
-  word_goes_on h e = rw (drop-cons s i 0 h, e, add-one) (omega arith)
-
-  pub word_ends : length s ≤ i → word_end s i ≡ i
-  unfolding first_word word_end
-  word_ends h = rw (drop_of_length-le s h) (omega arith)
+pub every_all : (p : ℕ → Bool) (w : List ℕ) → every p w ≡ list_all p w
+every_all p [] = refl
+every_all p (x ∷ w) = ap (λ t. p x && t) (every_all p w)
 
 -- ---- its bytes
 
@@ -42,6 +40,9 @@ take_word (x ∷ l) = by (plain x) (take_word l)
 
 pub word_front : (l : List ℕ) → l ≡ first_word l ++ drop (length (first_word l)) l
 word_front l = sym (take-append-drop (length (first_word l)) l) ∙ ap (λ (w : List ℕ). w ++ drop (length (first_word l)) l) (take_word l)
+
+pub word_within : (l : List ℕ) → length (first_word l) ≤ length l
+word_within l = omega (arith, ap length (word_front l), length-append (first_word l) (drop (length (first_word l)) l))
 
 pub word_plain : (l : List ℕ) → every plain (first_word l) ≡ true
 unfolding first_word

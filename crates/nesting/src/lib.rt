@@ -1,25 +1,24 @@
 // Calls nested on one line: Q-8's grammar, read.
 #![tactic(auto)]
 
-ghost use Rattle.std.specs.Prelude.{◌≡◌, cond, ◌+◌, ◌<◌, ◌≤◌, max, length, get_or};
-ghost use Rattle.values.specs.Value.{every};
+ghost use Rattle.std.specs.Prelude.{◌≡◌, cond, ◌+◌, ◌<◌, ◌≤◌, length, get_or};
+ghost use Rattle.std.specs.List.{list_all, prefix_len};
 ghost use Rattle.nesting.specs.Grammar.{letter_or_digit, plain, is_nested};
 ghost use Rattle.nesting.specs.Read.{refusal_of};
-ghost use Rattle.nesting.specs.Program.{word_end, head_at, argument_at, call_at, rest_at, deepened, judged_of};
+ghost use Rattle.nesting.specs.Program.{word_end, head_at, argument_at, call_at, rest_at, judged_of};
 
 // What an argument starts with, and where that ends: a name with an opening bracket after it, and whether the name is bitcast's; or a spelling.
 #[derive(Clone, Copy)]
 pub enum Head {
     Call(usize, bool),
     Spelling(usize),
-    Bad,
 }
 
 // Where what was read ends, and how deep it is.
 #[derive(Clone, Copy)]
-pub enum Step {
-    Read(usize, usize),
-    Wrong,
+pub struct Reached {
+    pub end: usize,
+    pub depth: usize,
 }
 
 // Whether a line holds an opening bracket.
@@ -34,7 +33,7 @@ pub fn is_nested(line: &[u8]) -> bool
 fn is_letter_or_digit(x: u8) -> bool
     ensures { result ≡ letter_or_digit x }
 {
-    ((b'0' <= x) & (x <= b'9')) | ((b'A' <= x) & (x <= b'Z')) | ((b'a' <= x) & (x <= b'z'))
+    x.is_ascii_alphanumeric()
 }
 
 fn is_plain(x: u8) -> bool
@@ -45,111 +44,97 @@ fn is_plain(x: u8) -> bool
 
 // Whether a word could be a name.
 fn letters_and_digits(w: &[u8]) -> bool
-    ensures { result ≡ every letter_or_digit w.now }
+    ensures { result ≡ list_all letter_or_digit w.now }
 {
-    let mut i = 0;
-    while i < w.len() {
-        if !is_letter_or_digit(w[i]) {
-            return false;
-        }
-        i += 1;
-    }
-    true
+    w.iter().all(|x| is_letter_or_digit(*x))
+}
+
+// How many bytes of `s` stand before the first that is not plain.
+fn word_length(s: &[u8]) -> usize
+    ensures { result ≡ prefix_len plain s.now }
+{
+    s.iter().take_while(|x| is_plain(**x)).count()
 }
 
 fn word_end(s: &[u8], at: usize) -> usize
     requires { at ≤ length s.now }
     ensures { (result ≡ word_end s.now at) × (at ≤ result) × (result ≤ length s.now) }
 {
-    let mut i = at;
-    while i < s.len() {
-        if !is_plain(s[i]) {
-            return i;
-        }
-        i += 1;
-    }
-    i
+    at + word_length(&s[at..])
 }
 
 // The byte at `at`, 0 past the end.
 pub fn byte_at(s: &[u8], at: usize) -> u8
     ensures { result ≡ get_or s.now at 0 }
 {
-    if at < s.len() { s[at] } else { 0 }
+    s.get(at).copied().unwrap_or(0)
 }
 
-// What the argument from `at` on starts with; a bitcast's `first` is no call.
-pub fn head_of(s: &[u8], at: usize, first: bool) -> Head
+// What the argument from `at` on starts with, `None` where it is empty; a bitcast's `first` is no call.
+pub fn head_of(s: &[u8], at: usize, first: bool) -> Option<Head>
     requires { at ≤ length s.now }
     ensures { result ≡ head_at first s.now at }
 {
     let e = word_end(s, at);
     if at == e {
-        return Head::Bad;
+        return None;
     }
     let w = &s[at..e];
     if (!first) & letters_and_digits(w) & (byte_at(s, e) == b'(') {
-        return Head::Call(e, buffers::same(b"bitcast", w));
+        return Some(Head::Call(e, buffers::same(b"bitcast", w)));
     }
-    Head::Spelling(e)
+    Some(Head::Spelling(e))
 }
 
 // ---- arguments and calls
 
-fn greatest(a: usize, b: usize) -> usize
-    ensures { result ≡ max a b }
-{
-    if a < b { b } else { a }
-}
+// The mark that closes a call, and the one that parts its arguments.
+const CLOSING: u8 = b')';
 
-fn deepen(t: Step, d: usize) -> Step
-    ensures { result ≡ deepened t d }
-{
-    match t {
-        Step::Wrong => Step::Wrong,
-        Step::Read(e, k) => Step::Read(e, greatest(d, k)),
-    }
-}
+const PARTING: u8 = b';';
 
 // An argument: a spelling, or a call.
 #[cycle(argument_call_rest)]
-fn argument(s: &[u8], at: usize, first: bool) -> Step
+fn argument(s: &[u8], at: usize, first: bool) -> Option<Reached>
     requires { at ≤ length s.now }
     ensures { result ≡ argument_at first s.now at }
 {
-    match head_of(s, at, first) {
-        Head::Bad => Step::Wrong,
-        Head::Spelling(e) => Step::Read(e, 0),
+    match head_of(s, at, first)? {
+        Head::Spelling(e) => Some(Reached { end: e, depth: 0 }),
         Head::Call(bracket, bitcast) => call(s, bracket, bitcast),
     }
 }
 
 // A call from its opening bracket on, or from a semicolon.
 #[cycle(argument_call_rest)]
-fn call(s: &[u8], at: usize, first: bool) -> Step
+fn call(s: &[u8], at: usize, first: bool) -> Option<Reached>
     requires { at < length s.now }
     ensures { result ≡ call_at first s.now at }
 {
-    match argument(s, at + 1, first) {
-        Step::Wrong => Step::Wrong,
-        Step::Read(e, d) => rest(s, e, d),
-    }
+    rest(s, argument(s, at + 1, first)?)
 }
 
-// A call from the end of an argument on, which is d deep.
+// A call from the end of an argument on.
 #[cycle(argument_call_rest)]
-fn rest(s: &[u8], e: usize, d: usize) -> Step
-    requires { d ≤ e }
-    ensures { result ≡ rest_at s.now e d }
+fn rest(s: &[u8], given: Reached) -> Option<Reached>
+    requires { given.depth ≤ given.end }
+    ensures { result ≡ rest_at s.now given.end given.depth }
 {
-    let mark = byte_at(s, e);
-    if mark == b')' {
-        return Step::Read(e + 1, d + 1);
+    let mark = byte_at(s, given.end);
+    if mark == CLOSING {
+        return Some(Reached {
+            end: given.end + 1,
+            depth: given.depth + 1,
+        });
     }
-    if mark == b';' {
-        return deepen(call(s, e, false), d + 1);
+    if mark == PARTING {
+        let others = call(s, given.end, false)?;
+        return Some(Reached {
+            end: others.end,
+            depth: (given.depth + 1).max(others.depth),
+        });
     }
-    Step::Wrong
+    None
 }
 
 // ---- lines
@@ -165,12 +150,22 @@ fn number(whole: bool, shallow: bool) -> u8
     }
 }
 
-fn judged(t: Step, n: usize) -> u8
-    ensures { result ≡ judged_of t n }
+fn judged(call: Option<Reached>, n: usize) -> u8
+    ensures { result ≡ judged_of call n }
 {
-    match t {
-        Step::Wrong => 12,
-        Step::Read(e, d) => number(e == n, d <= 8),
+    match call {
+        Some(x) => number(x.end == n, x.depth <= 8),
+        None => 12,
+    }
+}
+
+// The line's call.
+fn outermost(line: &[u8]) -> Option<Reached>
+    ensures { judged_of result (length line.now) ≡ refusal_of line.now }
+{
+    match head_of(line, 0, false)? {
+        Head::Spelling(_) => None,
+        Head::Call(bracket, bitcast) => call(line, bracket, bitcast),
     }
 }
 
@@ -178,9 +173,5 @@ fn judged(t: Step, n: usize) -> u8
 pub fn refusal(line: &[u8]) -> u8
     ensures { result ≡ refusal_of line.now }
 {
-    match head_of(line, 0, false) {
-        Head::Bad => 12,
-        Head::Spelling(_) => 12,
-        Head::Call(bracket, bitcast) => judged(call(line, bracket, bitcast), line.len()),
-    }
+    judged(outermost(line), line.len())
 }

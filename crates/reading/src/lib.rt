@@ -5,13 +5,12 @@ ghost use Rattle.std.specs.Prelude.{◌≡◌, ◌+◌, ◌≤◌, ◌<◌, leng
 ghost use Rattle.buffers.specs.Text.{place_of};
 ghost use Rattle.buffers.specs.Memory.{put};
 ghost use Rattle.words.specs.Words.{value_at, words_of};
-ghost use Rattle.spelling.specs.Hex.{DigitTable};
 ghost use Rattle.spelling.specs.Read.{read_value};
 ghost use Rattle.typenames.specs.Program.{type_from};
 ghost use Rattle.reading.specs.Into.{read_in, words_in};
 ghost use Rattle.reading.specs.Program.{ends};
 
-use spelling::{Fault, Reading};
+use spelling::{Digits, Fault, Reading};
 
 // ---- fields
 
@@ -40,8 +39,8 @@ fn ends_at(t: &[u8], e: usize) -> bool
 }
 
 // The value that the first field of t spells, as words from `at` on, the empty value's where it spells none; answers the length of its text, 0 of none.
-fn value_into(w: &mut [u64], at: usize, table: &[u8; 256], t: &[u8]) -> usize
-    requires { (at + 17 ≤ length w.old) × DigitTable table.now }
+fn value_into(w: &mut [u64], at: usize, table: &Digits, t: &[u8]) -> usize
+    requires { at + 17 ≤ length w.old }
     ensures { (0 < result → result ≡ place_of 9 t.now)
         × (w.new ≡ put w.old at (words_of (read_value (take (place_of 9 t.now) t.now)).value)) }
 {
@@ -63,8 +62,8 @@ fn value_into(w: &mut [u64], at: usize, table: &[u8; 256], t: &[u8]) -> usize
 }
 
 // The value that the first field of t spells, as words from `at` on, the empty value's where it spells none; answers the field's length.
-pub fn read_field(w: &mut [u64], at: usize, table: &[u8; 256], t: &[u8]) -> usize
-    requires { (at + 17 ≤ length w.old) × DigitTable table.now }
+pub fn read_field(w: &mut [u64], at: usize, table: &Digits, t: &[u8]) -> usize
+    requires { at + 17 ≤ length w.old }
     ensures { (result ≡ place_of 9 t.now)
         × (w.new ≡ put w.old at (words_of (read_value (take (place_of 9 t.now) t.now)).value)) }
 {
@@ -91,9 +90,8 @@ fn reading_of(w: &[u64], len: usize, s: &[u8]) -> Reading
         };
     }
     let f = faults::fault_in(s);
-    let fault = f.fault;
     Reading {
-        fault: fault,
+        fault: f.fault,
         place: f.place,
         value: values::empty(),
     }
@@ -124,12 +122,10 @@ pub fn read_into(text: &[u8], out: &mut [u64]) -> ReadInto
         × (out.new ≡ put out.old 0 (words_in (length out.old) text.now)) }
 {
     let a = read_value(text);
-    let f = a.fault;
-    let v = a.value;
-    let refusal = faults::fault_number(f);
+    let refusal = faults::fault_number(a.fault);
     if refusal != 0 {
         return ReadInto {
-            refusal: refusal,
+            refusal,
             place: a.place,
         };
     }
@@ -139,7 +135,7 @@ pub fn read_into(text: &[u8], out: &mut [u64]) -> ReadInto
             place: a.place,
         };
     }
-    words::put_value(out, 0, v);
+    words::put_value(out, 0, a.value);
     ReadInto {
         refusal: 0,
         place: a.place,

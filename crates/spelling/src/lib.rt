@@ -42,9 +42,7 @@ pub fn digit_count(s: Scalar) -> usize
 {
     match s {
         Scalar::Boolean => 1,
-        Scalar::I32 => 8,
-        Scalar::U32 => 8,
-        Scalar::F32 => 8,
+        Scalar::I32 | Scalar::U32 | Scalar::F32 => 8,
         Scalar::F16 => 4,
     }
 }
@@ -68,17 +66,22 @@ const DIGITS: [u8; 256] = *b"\
     \x10\x10\x10\x10\x10\x10\x10\x10\x10\x10\x10\x10\x10\x10\x10\x10\
     \x10\x10\x10\x10\x10\x10\x10\x10\x10\x10\x10\x10\x10\x10\x10\x10";
 
-// The table, to be read once before many bytes are looked up in it: each reading of a constant array copies it.
-pub fn digit_table() -> [u8; 256]
-    ensures { DigitTable result }
-{
-    DIGITS
+// A table of the digit that each byte spells, to be made once before many bytes are looked up in it: each reading of a constant array copies it.
+#[derive(Drop)]
+pub struct Digits {
+    pub of_bytes: [u8; 256],
+    ghost right: { DigitTable of_bytes },
 }
 
-// The digit that a byte spells, 16 where it spells none.
-pub fn digit(table: &[u8; 256], b: u8) -> u8
-    requires { DigitTable table.now }
-    ensures { (result ≡ digit_of b) × (result ≤ 16) }
-{
-    table[b as usize]
+pub fn digit_table() -> Digits {
+    Digits { of_bytes: DIGITS }
+}
+
+impl Digits {
+    // The digit that a byte spells, 16 where it spells none.
+    pub fn digit(&self, b: u8) -> u8
+        ensures { (result ≡ digit_of b) × (result ≤ 16) }
+    {
+        self.of_bytes[b as usize]
+    }
 }

@@ -12,13 +12,14 @@ use choosing::choose;
 pub fn byte_at(t: &[u8], i: usize) -> u8
     ensures { result ≡ get_or t.now i 0 }
 {
-    if i < t.len() { t[i] } else { 0 }
+    t.get(i).copied().unwrap_or(0)
 }
 
 // A text's first eleven bytes, 0 past its end: no type's spelling is longer.
 fn short_bytes(t: &[u8]) -> [u8; 11]
     ensures { result ≡ first_bytes t.now }
 {
+    // Written out: of `std::array::from_fn` over eleven places the proof did not close.
     [
         byte_at(t, 0),
         byte_at(t, 1),

@@ -71,8 +71,5 @@ pub fn write_into(value: &[u64], out: &mut [u8]) -> Written
         return Written { refusal: 8, len: 0 };
     }
     let len = put_value(out, 0, value, 0);
-    Written {
-        refusal: 0,
-        len: len,
-    }
+    Written { refusal: 0, len }
 }

@@ -13,14 +13,14 @@ use Rattle.digits.proofs.LaneTexts.{lane_right, lane_wrong, lane_within, lanes_n
 use Rattle.digits.proofs.lanes_into.Goals as goal
 
 pub loop-k-init : goal.loop-k-init
-loop-k-init c = (search rules, refl, rw sub-zero c.requires.2, rw (sub-zero, zero-add), rw (add-zero, sub-zero))
+loop-k-init c = (search rules, refl, rw sub-zero c.requires.1, rw (sub-zero, zero-add), rw (add-zero, sub-zero))
 
 pub lane_after-x-requires : goal.lane_after-x-requires
 lane_after-x-requires c =
     let a = c.args in
     let l = c.loop-k in
     let r = lane_within (digit_bound a.s) (digit_count a.s) l.before a.n l.k a.t.now l.next c.loop-k-test.true in
-    (c.requires.0, omega (arith, r))
+    omega (arith, r)
 
 pub returns-then-x-ge-NO_LANE : goal.returns-then-x-ge-NO_LANE
 returns-then-x-ge-NO_LANE c =

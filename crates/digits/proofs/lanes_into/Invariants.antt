@@ -11,6 +11,3 @@ abbrev pub invariant-loop-k : goal.invariant-loop-k
 invariant-loop-k l = (l.k ≤ l.n) × (length l.w ≡ length l.initial.w) × (l.next + (l.n - l.k) * (digit_count l.s + 1) ≤ length l.t)
     × (length (lanes_from (digit_bound l.s) (digit_count l.s) 58 l.n l.t l.i) ≡ l.k + length (lanes_from (digit_bound l.s) (digit_count l.s) l.before (l.n - l.k) l.t l.next))
     × (put l.initial.w l.at (lanes_from (digit_bound l.s) (digit_count l.s) 58 l.n l.t l.i) ≡ put l.w (l.at + l.k) (lanes_from (digit_bound l.s) (digit_count l.s) l.before (l.n - l.k) l.t l.next))
-
-abbrev pub decreases-loop-k : goal.decreases-loop-k
-decreases-loop-k l = l.n - l.k

@@ -18,7 +18,7 @@ asked c =
     (leb-true 4 a.due more.0, eqb-true a.b 16 more.1, omega (arith, leb-true 4 (length a.s.now - a.i) room.1))
 
 pub four_digits-requires : goal.four_digits-requires
-four_digits-requires c = (c.requires.0, (asked c).2)
+four_digits-requires c = (asked c).2
 
 pub returns-then-due-b : goal.returns-then-due-b
 returns-then-due-b c = let q = asked (goal.at.returns-then-due-b c).Then-due-b in λ h. (q.0, q.2, rw q.1 (sym c.four_digits.ensures ∙ h))

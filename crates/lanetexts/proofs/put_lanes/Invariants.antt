@@ -10,6 +10,3 @@ abbrev pub invariant-loop-k : goal.invariant-loop-k
 invariant-loop-k l = (l.k ≤ l.n) × (length l.out ≡ length l.initial.out)
     × (l.at + length (lanes_text 58 l.w (take l.n l.lanes)) ≡ l.next + length (lanes_text l.before l.w (drop l.k (take l.n l.lanes))))
     × (put l.initial.out l.at (lanes_text 58 l.w (take l.n l.lanes)) ≡ put l.out l.next (lanes_text l.before l.w (drop l.k (take l.n l.lanes))))
-
-abbrev pub decreases-loop-k : goal.decreases-loop-k
-decreases-loop-k l = l.n - l.k

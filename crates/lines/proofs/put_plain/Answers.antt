@@ -20,7 +20,7 @@ taken_apart : (c : After-argument_count)
     (c.one_if.result + c.one_if-2.result + c.one_if-3.result + c.one_if-4.result + c.argument_count.result)
 taken_apart c =
     apart _ _ _ _ _ _ _ _ _
-    (ap length c.requires.2 ∙ field_length _, c.after-t1.ensures) (c.read_field-n1.ensures.0, c.after-t2.ensures)
+    (ap length c.requires.1 ∙ field_length _, c.after-t1.ensures) (c.read_field-n1.ensures.0, c.after-t2.ensures)
     (c.read_field-n2.ensures.0, c.after-t3.ensures) (c.read_field-n3.ensures.0, c.after-t4.ensures)
     _ _ _ _ _ c.one_if.ensures.0 c.one_if-2.ensures.0 c.one_if-3.ensures.0 c.one_if-4.ensures.0 c.argument_count.ensures
 

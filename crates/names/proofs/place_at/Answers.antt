@@ -8,5 +8,5 @@ use Rattle.names.proofs.place_at.Goals as goal
 pub returns : goal.returns
 unfolding place places slot
 returns c =
-    let e : c.wide.result ≡ place c.args.h = c.wide.ensures.0 in
+    let e : c.from.result ≡ place c.args.h = c.from.ensures in
     (e, omega (arith, place_below c.args.h))

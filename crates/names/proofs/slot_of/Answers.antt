@@ -14,4 +14,4 @@ returns-then-n-lt3 c = (rw (lt-ltb (length c.args.s.now) 3 c.if-n-lt3.true), sea
 pub returns : goal.returns
 unfolding slot
 returns c =
-    (rw (le-ltb (length c.args.s.now) 3 c.if-n-lt3.false, c.wide-3.ensures.0, c.wide-2.ensures.0, c.wide.ensures.0, c.back-2.ensures, c.back.ensures), mod-lt _ (omega arith))
+    (rw (le-ltb (length c.args.s.now) 3 c.if-n-lt3.false, c.byte_back-3.ensures.0, c.byte_back-2.ensures.0, c.byte_back.ensures.0), mod-lt _ (omega arith))

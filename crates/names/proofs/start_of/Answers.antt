@@ -4,4 +4,4 @@ use Rattle.names.proofs.start_of.Goals as goal
 
 pub returns : goal.returns
 unfolding start
-returns c = c.wide_start.ensures
+returns c = c.from.ensures

@@ -9,4 +9,4 @@ abbrev pub decreases-fold_call : goal.decreases-fold_call
 decreases-fold_call l = 2 * (length l.s.now - l.at)
 
 abbrev pub decreases-fold_rest : goal.decreases-fold_rest
-decreases-fold_rest l = 2 * (length l.s.now - l.e) + 1
+decreases-fold_rest l = 2 * (length l.s.now - l.x.end) + 1

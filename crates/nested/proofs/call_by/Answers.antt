@@ -16,8 +16,8 @@ by_name w b q = sym q
 
 pub returns-then-same : goal.returns-then-same
 unfolding call_by
-returns-then-same c = rw (by_name _ _ c.same.ensures, c.if-same.true, c.builtin_at-builtin.ensures, c.number_of.ensures, c.empty.ensures, c.empty-then-same.ensures)
+returns-then-same c = rw (by_name _ _ c.same.ensures, c.if-same.true, c.builtin_at.ensures, c.number_of.ensures, c.empty.ensures, c.empty-then-same.ensures)
 
 pub returns : goal.returns
 unfolding call_by
-returns c = rw (by_name _ _ c.same.ensures, c.if-same.false, c.builtin_at-builtin.ensures, c.number_of.ensures)
+returns c = rw (by_name _ _ c.same.ensures, c.if-same.false, c.builtin_at.ensures, c.number_of.ensures)

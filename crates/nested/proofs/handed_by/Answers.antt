@@ -19,8 +19,8 @@ module _ (w : List ℕ) (x : Folded) (b : Bool) (q : b ≡ is_frexp w) where
   unfolding handed
   handed_on t = rw (← q, t)
 
-pub returns-then-same-a : goal.returns-then-same-a
-returns-then-same-a c = c.of_call.ensures ∙ rw (c.empty.ensures, c.misspelled.ensures) (not_handed _ _ _ c.same.ensures c.if-same-a.true)
+pub returns-then-same-x : goal.returns-then-same-x
+returns-then-same-x c = c.of_call.ensures ∙ rw (c.empty.ensures, c.misspelled.ensures) (not_handed _ _ _ c.same.ensures c.if-same-x.true)
 
 pub returns : goal.returns
-returns c = c.of_call-2.ensures ∙ rw c.misspelled-2.ensures (handed_on _ _ _ c.same.ensures c.if-same-a.false)
+returns c = c.of_call-2.ensures ∙ rw c.misspelled-2.ensures (handed_on _ _ _ c.same.ensures c.if-same-x.false)

@@ -4,10 +4,10 @@ use borrow.Author.Tests.{eq-eqb, ne_eqb}
 use Rattle.nested.specs.Nested.{judged}
 use Rattle.nested.proofs.judge.Goals as goal
 
-pub returns-then-m-ne0 : goal.returns-then-m-ne0
+pub returns-then-g-ne0 : goal.returns-then-g-ne0
 unfolding judged
-returns-then-m-ne0 c = c.refused_at.ensures ∙ rw (ne_eqb _ _ c.if-m-ne0.true)
+returns-then-g-ne0 c = c.refused_at.ensures ∙ rw (ne_eqb _ _ c.if-g-ne0.true)
 
 pub returns : goal.returns
 unfolding judged
-returns c = c.tell.ensures ∙ rw (c.fold_in.ensures, c.call_by.ensures, eq-eqb _ _ c.if-m-ne0.false)
+returns c = c.tell.ensures ∙ rw (c.fold_in.ensures, c.call_by.ensures, eq-eqb _ _ c.if-g-ne0.false)

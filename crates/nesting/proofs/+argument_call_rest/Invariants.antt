@@ -9,4 +9,4 @@ abbrev pub decreases-call : goal.decreases-call
 decreases-call l = 2 * (length l.s.now - l.at)
 
 abbrev pub decreases-rest : goal.decreases-rest
-decreases-rest l = 2 * (length l.s.now - l.e) + 1
+decreases-rest l = 2 * (length l.s.now - l.given.end) + 1

@@ -1,22 +1,25 @@
--- The invariant: the word from i on ends where the one from `at` on does. Assumes nothing.
-use mathlib.Core.Path.{sym, ◌∙◌}
-use borrow.Author.Rules.{rules}
-use Rattle.nesting.proofs.Words.{word_stops, word_goes_on, word_ends}
+-- The word is as long as the bytes that are plain. Assumes nothing.
+use Rattle.std.proofs.Common.{◌≡◌, ℕ, ◌+◌, ◌-◌, ◌≤◌, List, arith, ap, sym, ◌∙◌, length, take, drop, length-drop}
+use Rattle.std.proofs.Math.Seq.{take-length}
+use Rattle.std.specs.List.{prefix_len}
+use Rattle.nesting.specs.Grammar.{plain}
+use Rattle.nesting.specs.Read.{first_word}
+use Rattle.nesting.specs.Program.{word_end}
+use Rattle.nesting.proofs.Words.{first_word_taken, word_within}
 use Rattle.nesting.proofs.word_end.Goals as goal
+use Rattle.nesting.proofs.word_end.Goals.{After-word_length}
 
-pub returns-then-not-is_plain : goal.returns-then-not-is_plain
-returns-then-not-is_plain c =
-    let s = c.args.s.now in
-    let h = word_stops s c.loop-i.i (search rules) (sym c.is_plain.ensures ∙ c.if-not-is_plain.true) in
-    search rules
+of_rest : (s : List ℕ) (at n : ℕ) → n ≡ prefix_len plain (take (length s - at) (drop at s)) → n ≡ length (first_word (drop at s))
+of_rest s at n e = let z = length-drop at s in e ∙ rw (← z, take-length (drop at s)) (sym (first_word_taken (drop at s)))
 
-pub loop-i-preserved : goal.loop-i-preserved
-loop-i-preserved c =
+within : (c : After-word_length) → c.args.at + c.word_length.result ≤ length c.args.s.now
+within c =
     let s = c.args.s.now in
-    let h = word_goes_on s c.loop-i.i (search rules) (sym c.is_plain.ensures ∙ c.if-not-is_plain.false) in
-    search rules
+    omega (arith, of_rest s c.args.at c.word_length.result c.word_length.ensures, word_within (drop c.args.at s), length-drop c.args.at s)
+
+pub overflow_add-result : goal.overflow_add-result
+overflow_add-result c = omega (arith, within c)
 
 pub returns : goal.returns
-returns c =
-    let h = word_ends c.args.s.now c.loop-i.i (search rules) in
-    search rules
+unfolding word_end
+returns c = (ap (λ n. c.args.at + n) (of_rest c.args.s.now c.args.at _ c.word_length.ensures), omega arith, within c)

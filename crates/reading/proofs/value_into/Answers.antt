@@ -72,8 +72,7 @@ returns-then-not-ends_at c =
 pub lanes_into-requires : goal.lanes_into-requires
 lanes_into-requires c =
     let t = c.args.t.now in (
-      c.requires.1,
-      omega (arith, c.w-1.given, c.count_at-n.ensures.1, c.requires.0),
+      omega (arith, c.w-1.given, c.count_at-n.ensures.1, c.requires),
       rw (sub-zero, ← c.digit_count.ensures.0, length-take-le _ t (within (goal.at.lanes_into-requires c).Else-not-ends_at)) (omega arith),
     )
 
@@ -81,7 +80,7 @@ pub returns-then-lanes_into-n : goal.returns-then-lanes_into-n
 returns-then-lanes_into-n c =
     let f = lanes_put (goal.at.returns-then-lanes_into-n c).After-lanes_into in
     let e = none_found c.args.t.now c.type_from-p.ensures.0 (text_length_lem (goal.at.returns-then-lanes_into-n c).After-digit_count) (rw (← f.0, ← c.count_at-n.ensures.0) c.if-lanes_into-n.true) in
-    (λ h. absurd (omega arith), rw e (c.clear-then-lanes_into-n.ensures ∙ rw f.1 (cleared_again c.args.w.now c.args.at _ c.requires.0 f.2)))
+    (λ h. absurd (omega arith), rw e (c.clear-then-lanes_into-n.ensures ∙ rw f.1 (cleared_again c.args.w.now c.args.at _ c.requires f.2)))
 
 pub shape_of-w : goal.shape_of-w
 shape_of-w c = length-set c.lanes_into.new.w c.args.at _ ∙ c.w-2-1.given ∙ c.w-1.given
@@ -90,7 +89,7 @@ pub returns : goal.returns
 returns c =
     let f = lanes_put (goal.at.returns c).After-lanes_into in
     let e = is_found c.args.t.now c.type_from-p.ensures.0 (text_length_lem (goal.at.returns c).After-digit_count) (ended (goal.at.returns c).Else-not-ends_at) (rw (← f.0, ← c.count_at-n.ensures.0) c.if-lanes_into-n.false) in
-    (e.0, rw (e.1, f.1) (value_put c.args.w.now c.args.at _ c.requires.0 f.2 c.type_from-p.ensures.1))
+    (e.0, rw (e.1, f.1) (value_put c.args.w.now c.args.at _ c.requires f.2 c.type_from-p.ensures.1))
 
 pub slice_bounds-lanes_into-end : goal.slice_bounds-lanes_into-end
 slice_bounds-lanes_into-end c = omega (arith, within (goal.at.slice_bounds-lanes_into-end c).Else-not-ends_at)

@@ -5,6 +5,6 @@ use Rattle.values.proofs.Tested.{below}
 use Rattle.spelling.proofs.Tested.{tested}
 use Rattle.spelling.proofs.digit_table.Goals as goal
 
-pub returns : goal.returns
+pub invariant_of-result : goal.invariant_of-result
 unfolding below
-returns c = tested digit_of 256 _ refl
+invariant_of-result c = record { right = tested digit_of 256 _ refl }
