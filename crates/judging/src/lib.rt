@@ -8,7 +8,7 @@ ghost use Rattle.std.specs.Prelude.{◌≡◌};
 ghost use Rattle.calls.specs.Refuse.{refusal_of};
 ghost use Rattle.calls.specs.Words.{call_of};
 
-// The refusal of a call of words, 0 where there is none.
+// The refusal of a call of words, 0 where there is none. A number and no error enum: `refusal_of` and `first_of` of calls, which all answers rest on, are numbers.
 pub fn refusal_of(w: &[u64]) -> u8
     ensures { result ≡ refusal_of (call_of w.now) }
 {
