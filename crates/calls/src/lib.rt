@@ -101,7 +101,7 @@ const BUILTINS: [Builtin; 41] = [
     Builtin::Fract,
 ];
 
-// The builtin of a number, Unknown where no builtin has it.
+// The builtin of a number, Unknown where no builtin has it. No TryFrom: `builtin_at` of specs/Table answers Unknown for such a number.
 pub fn builtin_at(n: u64) -> Builtin
     ensures { result ≡ builtin_at n }
 {

@@ -39,7 +39,7 @@ pub extern "C" fn chanrelout_call(call: &[u64], out: &mut [u64]) -> u8
     ensures { (result ≡ refusal_in Reading.Crate (length out.old) call.now)
         × (out.new ≡ put out.old 0 (written_in Reading.Crate (length out.old) call.now)) }
 {
-    builtins::fold(call, out)
+    refusals::told(builtins::fold(call, out))
 }
 
 // What a number gives that is no reading or no engine: a refusal by 1, as of a name that is not in the table, before anything is looked at.
@@ -75,7 +75,7 @@ pub extern "C" fn chanrelout_call_by(reading: u64, engine: u64, call: &[u64], ou
         × (out.new ≡ put out.old 0 (cond (is_reading reading && is_engine engine) (written_in (reading_at reading) (length out.old) call.now) [])) }
 {
     match choices(reading, engine) {
-        Some((reading, engine)) => builtins::fold_in(reading, engine, call, out),
+        Some((reading, engine)) => refusals::told(builtins::fold_in(reading, engine, call, out)),
         None => NO_SUCH_CHOICE,
     }
 }
@@ -110,7 +110,7 @@ pub extern "C" fn chanrelout_calls_by(
         × (out.new ≡ put out.old 0 (cond (is_reading reading && is_engine engine) (written_of_all (reading_at reading) (length out.old) calls.now) [])) }
 {
     match choices(reading, engine) {
-        Some((reading, engine)) => materials::fold_words(reading, engine, calls, out),
+        Some((reading, engine)) => refusals::told(materials::fold_words(reading, engine, calls, out)),
         None => NO_SUCH_CHOICE,
     }
 }

@@ -23,7 +23,7 @@ fn limit_at(i: usize, n: usize, bound: u64) -> u64
     if i < n { bound } else { 1 }
 }
 
-// Whether the first four lanes are below the bound where they are among the first n, and 0 where not.
+// Whether the first four lanes are below the bound where they are among the first n, and 0 where not. A fold over them was tried, and is no plainer.
 fn four_ok(l: &[u64], n: usize, bound: u64) -> bool
     requires { length l.now ≡ 16 }
     ensures { result ≡ ltb (get_or l.now 0 0) (cond (ltb 0 n) bound 1) && ltb (get_or l.now 1 0) (cond (ltb 1 n) bound 1)

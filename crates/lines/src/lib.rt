@@ -102,7 +102,7 @@ pub fn fold_line_in(reading: Reading, engine: Engine, line: &[u8], out: &mut [u8
     let cast = buffers::same(b"bitcast", name);
     put_call(&mut call, line, name, cast);
     let mut answer: [u64; 35] = [0; 35];
-    let refusal = builtins::fold_in(reading, engine, &call, &mut answer);
+    let refusal = refusals::told(builtins::fold_in(reading, engine, &call, &mut answer));
     if refusal == 3 {
         return misspelled(line, name.len(), cast);
     }

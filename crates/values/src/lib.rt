@@ -29,7 +29,7 @@ pub enum Size {
     Four,
 }
 
-// Empty is no type: it is the empty value's.
+// Empty is no type: it is the empty value's. No Option: `place`, `kind_at` and `empty_value` of specs/Value, on which all theorems rest, have it as a kind.
 #[derive(Clone, Copy, PartialEq, Eq)]
 pub enum Kind {
     Empty,

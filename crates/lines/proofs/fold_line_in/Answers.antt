@@ -58,9 +58,9 @@ misspelled-requires c = (omega arith, ap length c.field-name.ensures, cast_so (g
 pub returns-then-refusal-eq3 : goal.returns-then-refusal-eq3
 returns-then-refusal-eq3 c =
     let a = c.args in
-    let f = c.fold_in-refusal in
+    let f = c.fold_in in
     let w = c.put_call in
-    let is = (answers a.reading a.line.now w.new.w (replicate 35 0) (omega arith) w.ensures (omega arith) f.ensures.0 f.ensures.1).0 in
+    let is = (answers a.reading a.line.now w.new.w (replicate 35 0) (omega arith) w.ensures (omega arith) (c.told-refusal.ensures ∙ f.ensures.0) f.ensures.1).0 in
     let m = misspelled_line_lem a.reading (length a.out.now) a.line.now (sym is ∙ c.if-refusal-eq3.true) c.misspelled.ensures in
     (m.0, sym (ap (put a.out.now 0) m.1 ∙ put_nil a.out.now 0))
 
@@ -68,8 +68,8 @@ pub returns : goal.returns
 unfolding written_in
 returns c =
     let a = c.args in
-    let f = c.fold_in-refusal in
+    let f = c.fold_in in
     let w = c.put_call in
-    let so = answers a.reading a.line.now w.new.w (replicate 35 0) (omega arith) w.ensures (omega arith) f.ensures.0 f.ensures.1 in
+    let so = answers a.reading a.line.now w.new.w (replicate 35 0) (omega arith) w.ensures (omega arith) (c.told-refusal.ensures ∙ f.ensures.0) f.ensures.1 in
     let r = c.put_answer.ensures (line_of a.reading a.line.now) so in
     (answered_line a.reading (length a.out.now) a.line.now (λ z. c.if-refusal-eq3.false (so.0 ∙ z)) r.0, r.1)
