@@ -11,28 +11,20 @@ use values::{Scalar, Value};
 // The kind of a difference, the first that applies; Alike is none.
 #[derive(Clone, Copy)]
 pub enum Difference {
-    Alike,
-    Missing,
-    Refusal,
-    OtherType,
-    OtherValue,
-    NanBits,
-    ZeroSign,
+    Alike = 0,
+    Missing = 1,
+    Refusal = 2,
+    OtherType = 3,
+    OtherValue = 4,
+    NanBits = 5,
+    ZeroSign = 6,
 }
 
 // Its number, 0 for none.
 pub fn kind_number(d: Difference) -> u8
     ensures { (result ≡ kind_number d) × (result ≤ 6) }
 {
-    match d {
-        Difference::Alike => 0,
-        Difference::Missing => 1,
-        Difference::Refusal => 2,
-        Difference::OtherType => 3,
-        Difference::OtherValue => 4,
-        Difference::NanBits => 5,
-        Difference::ZeroSign => 6,
-    }
+    d as u8
 }
 
 // ---- lanes
@@ -50,43 +42,43 @@ fn normal_float(nans: bool, h: u64, infinity: u64, x: u64) -> u64
     if m == 0 { 0 } else { x }
 }
 
+#[tactic(auto, unfolding(crate::specs::Kinds::normal_lane))]
 fn normal_lane(nans: bool, s: Scalar, x: u64) -> u64
     ensures { result ≡ normal_lane nans s x }
 {
     match s {
-        Scalar::Boolean => x,
-        Scalar::I32 => x,
-        Scalar::U32 => x,
+        Scalar::Boolean | Scalar::I32 | Scalar::U32 => x,
         Scalar::F32 => normal_float(nans, 0x8000_0000, 0x7f80_0000, x),
         Scalar::F16 => normal_float(nans, 0x8000, 0x7c00, x),
     }
 }
 
 // Whether the first n lanes are the same once such lanes count as one.
+#[tactic(auto, unfolding(buffers::specs::Text::same_bytes))]
 fn same_lanes(nans: bool, s: Scalar, n: usize, a: [u64; 16], b: [u64; 16]) -> bool
     requires { n ≤ 16 }
     ensures { result ≡ same_bytes (map (normal_lane nans s) (take n a)) (map (normal_lane nans s) (take n b)) }
 {
-    let mut i = 0;
-    while i < n {
-        let x = normal_lane(nans, s, a[i]);
-        let y = normal_lane(nans, s, b[i]);
-        if x != y {
+    for (x, y) in a[..n].iter().zip(&b[..n]) {
+        if normal_lane(nans, s, *x) != normal_lane(nans, s, *y) {
             return false;
         }
-        i += 1;
     }
     true
 }
 
 // Two values of one type.
+#[tactic(auto, unfolding(crate::specs::Kinds::same_lanes))]
 fn same_value(nans: bool, v: Value, w: Value) -> bool
     ensures { result ≡ same_lanes nans v w }
 {
-    let k = v.kind;
-    let a = v.lanes;
-    let b = w.lanes;
-    same_lanes(nans, values::scalar_of(k), values::lane_count(k), a, b)
+    same_lanes(
+        nans,
+        values::scalar_of(v.kind),
+        values::lane_count(v.kind),
+        v.lanes,
+        w.lanes,
+    )
 }
 
 // ---- lines
@@ -106,17 +98,15 @@ fn same_types(a: Answered, b: Answered) -> bool
 }
 
 // Of pairs both values count.
+#[tactic(auto, unfolding(crate::specs::Kinds::same_answers))]
 fn same_answers(nans: bool, a: Answered, b: Answered) -> bool
     ensures { result ≡ same_answers nans a b }
 {
-    let v = a.first;
-    let w = b.first;
-    let x = a.second;
-    let y = b.second;
-    same_value(nans, v, w) & same_value(nans, x, y)
+    same_value(nans, a.first, b.first) && same_value(nans, a.second, b.second)
 }
 
 // Two lines that are there and are not the same to the byte.
+#[tactic(auto, unfolding(crate::specs::Kinds::answer_kind))]
 fn answer_kind(a: Answered, b: Answered) -> Difference
     ensures { result ≡ answer_kind a b }
 {
@@ -136,6 +126,7 @@ fn answer_kind(a: Answered, b: Answered) -> Difference
 }
 
 // Two lines that are there.
+#[tactic(auto, unfolding(crate::specs::Kinds::line_kind))]
 pub fn line_kind(left: &[u8], right: &[u8]) -> Difference
     ensures { result ≡ line_kind left.now right.now }
 {

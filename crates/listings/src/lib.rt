@@ -2,7 +2,7 @@
 #![tactic(auto)]
 
 ghost use Rattle.std.specs.Prelude.{◌≡◌, cond, [], ◌∷◌, drop};
-ghost use Rattle.values.specs.Value.{every};
+ghost use Rattle.std.specs.List.{list_all};
 ghost use Rattle.fields.specs.Fields.{fields};
 ghost use Rattle.spelling.specs.Read.{read_value};
 ghost use Rattle.listings.specs.Answers.{no_answer, refused_line, values_line, decimal_digit, is_number, is_pair, faultless, lone_line, pair_line, says_refused, of_fields, read_answer};
@@ -74,16 +74,9 @@ fn is_decimal(x: u8) -> bool
 }
 
 fn all_decimal(s: &[u8]) -> bool
-    ensures { result ≡ every decimal_digit s.now }
+    ensures { result ≡ list_all decimal_digit s.now }
 {
-    let mut i = 0;
-    while i < s.len() {
-        if !is_decimal(s[i]) {
-            return false;
-        }
-        i += 1;
-    }
-    true
+    s.iter().all(|x| is_decimal(*x))
 }
 
 // One to three decimal digits.
@@ -107,22 +100,15 @@ fn is_pair(k: Kind, l: Kind) -> bool
 fn is_faultless(f: Fault) -> bool
     ensures { result ≡ faultless f }
 {
-    match f {
-        Fault::Nothing => true,
-        Fault::TypeSpelling => false,
-        Fault::Lanes => false,
-        Fault::Digit => false,
-    }
+    matches!(f, Fault::Nothing)
 }
 
 fn read_lone(v: &[u8]) -> Answered
     ensures { result ≡ lone_line (read_value v.now) }
 {
     let a = reading::read_value(v);
-    let f = a.fault;
-    let x = a.value;
-    if is_faultless(f) {
-        values_line(x, values::empty())
+    if is_faultless(a.fault) {
+        values_line(a.value, values::empty())
     } else {
         no_answer()
     }
@@ -133,14 +119,8 @@ fn read_pair(v: &[u8], w: &[u8]) -> Answered
 {
     let a = reading::read_value(v);
     let b = reading::read_value(w);
-    let f = a.fault;
-    let g = b.fault;
-    let x = a.value;
-    let y = b.value;
-    let k = x.kind;
-    let l = y.kind;
-    if is_faultless(f) & is_faultless(g) & is_pair(k, l) {
-        values_line(x, y)
+    if is_faultless(a.fault) & is_faultless(b.fault) & is_pair(a.value.kind, b.value.kind) {
+        values_line(a.value, b.value)
     } else {
         no_answer()
     }
@@ -237,8 +217,7 @@ pub fn next_at(listing: &[u8], at: usize) -> usize
 fn is_answer(line: &[u8]) -> bool
     ensures { result ≡ (read_answer line.now).ok }
 {
-    let a = read_answer(line);
-    a.ok
+    read_answer(line).ok
 }
 
 // A listing's refusal and its count of lines.
@@ -252,15 +231,15 @@ pub fn judge_listing(listing: &[u8]) -> Judged
         };
     }
     let mut good = true;
-    let mut count: usize = 0;
-    let mut at: usize = 0;
-    while listing.len() - at > 0 {
-        good = good & is_answer(line_at(listing, at));
+    let mut count = 0;
+    let mut at = 0;
+    while at < listing.len() {
+        good &= is_answer(line_at(listing, at));
         count += 1;
         at = next_at(listing, at);
     }
     Judged {
         refusal: choose(good, 0, 14),
-        count: count,
+        count,
     }
 }

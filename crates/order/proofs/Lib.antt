@@ -1,4 +1,3 @@
-pub mod Steps
 pub mod Orders
 pub mod Keys
 pub mod TotalOrder

@@ -1,12 +1,10 @@
--- The lanes passed count as one at each place; a place where they do not tells the lists apart. Assumes nothing.
-use Prim.Native.Nat.{ℕ, ◌≤◌, ◌<◌, ◌-◌}
-use mathlib.Core.Path.{◌≡◌}
-use lib.ListN.{get_or}
+-- The invariant: what is left tells what all does. Assumes nothing.
+use Rattle.std.proofs.Common.{◌≡◌, map, take, drop, length}
+use Rattle.buffers.specs.Text.{same_bytes}
 use Rattle.kinds.specs.Kinds.{normal_lane}
 use Rattle.kinds.proofs.same_lanes.Given as goal
 
-abbrev pub invariant-loop-i : goal.invariant-loop-i
-invariant-loop-i l = (l.i ≤ l.n) × ((k : ℕ) → k < l.i → normal_lane l.nans l.s (get_or l.a k 0) ≡ normal_lane l.nans l.s (get_or l.b k 0))
-
-abbrev pub decreases-loop-i : goal.decreases-loop-i
-decreases-loop-i l = l.n - l.i
+abbrev pub invariant-loop-x : goal.invariant-loop-x
+invariant-loop-x l = (goal.iterator-loop-x).can_next l.x-iterator × (goal.iterator-loop-x).is_finite l.x-iterator
+    × (same_bytes (map (normal_lane l.nans l.s) (take l.n l.fn.a)) (map (normal_lane l.nans l.s) (take l.n l.fn.b))
+    ≡ same_bytes (map (normal_lane l.nans l.s) (drop (length l.yielded) (take l.n l.fn.a))) (map (normal_lane l.nans l.s) (drop (length l.yielded) (take l.n l.fn.b))))
