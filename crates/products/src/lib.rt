@@ -39,6 +39,13 @@ pub fn cross(x: [u32; 4], y: [u32; 4]) -> [u32; 4]
 
 // ---- dot
 
+// The low 32 bits of the product. A multiplication of our own, as 01 has it.
+fn wrapping_mul(a: u32, b: u32) -> u32
+    ensures { result ≡ (a * b) % 2 ^ 32 }
+{
+    ((a as u64) * (b as u64) % 0x1_0000_0000) as u32
+}
+
 // What a lane's products and sums are: of words, or of the floats that the words stand for.
 trait Summand: Copy {
     ghost times: { ℕ → ℕ → Self };
@@ -59,7 +66,7 @@ impl Summand for u32 {
     ghost plus = { λ x y. (x + y) % 2 ^ 32 };
 
     fn product(x: u32, y: u32) -> u32 {
-        x.wrapping_mul(y)
+        wrapping_mul(x, y)
     }
 
     fn add(self, other: u32) -> u32 {
