@@ -1,4 +1,4 @@
-// What is refused, and why: 01, "What a refused call gives", and the refusals of 02's requests.
+// Why a call is refused: 01, "What a refused call gives".
 #![tactic(auto)]
 
 ghost use Rattle.std.specs.Prelude.{◌≡◌};
@@ -18,21 +18,8 @@ pub enum Refusal {
     NotTogether,
     // the two types of a bitcast have different byte sizes
     ByteSizes,
-    // the line is longer than any that is read
-    LongLine,
     // the lent output is shorter than the answer
     NoRoom,
-    // of a spelling: the type or the colon, the count of lanes, a digit
-    TypeSpelling,
-    Lanes,
-    Digit,
-    // a line with a bracket is no call, or one that nests too deep
-    NoCall,
-    TooDeep,
-    // a listing has a line that is no answer, is too long, or has too many lines
-    NoAnswer,
-    LongListing,
-    ManyLines,
 }
 
 impl From<Refusal> for u8 {
@@ -46,16 +33,7 @@ impl From<Refusal> for u8 {
             Refusal::NotTaken => 4,
             Refusal::NotTogether => 5,
             Refusal::ByteSizes => 6,
-            Refusal::LongLine => 7,
             Refusal::NoRoom => 8,
-            Refusal::TypeSpelling => 9,
-            Refusal::Lanes => 10,
-            Refusal::Digit => 11,
-            Refusal::NoCall => 12,
-            Refusal::TooDeep => 13,
-            Refusal::NoAnswer => 14,
-            Refusal::LongListing => 15,
-            Refusal::ManyLines => 17,
         }
     }
 }

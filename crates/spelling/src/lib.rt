@@ -70,10 +70,12 @@ const DIGITS: [u8; 256] = *b"\
 #[derive(Drop)]
 pub struct Digits {
     pub of_bytes: [u8; 256],
-    ghost right: { DigitTable of_bytes },
+    pub ghost right: { DigitTable of_bytes },
 }
 
-pub fn digit_table() -> Digits {
+pub fn digit_table() -> Digits
+    ensures { DigitTable result.of_bytes }
+{
     Digits { of_bytes: DIGITS }
 }
 
