@@ -94,7 +94,7 @@ fn same_types(a: Answered, b: Answered) -> bool
     let l = w.kind;
     let m = x.kind;
     let n = y.kind;
-    values::same_kind(k, l) & values::same_kind(m, n)
+    (k == l) & (m == n)
 }
 
 // Of pairs both values count.

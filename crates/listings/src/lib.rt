@@ -91,10 +91,10 @@ fn is_number(s: &[u8]) -> bool
 fn is_pair(k: Kind, l: Kind) -> bool
     ensures { result ≡ is_pair k l }
 {
-    let single = values::same_kind(k, values::shaped_as(Scalar::F32, k));
-    let half = values::same_kind(k, values::shaped_as(Scalar::F16, k));
+    let single = k == values::shaped_as(Scalar::F32, k);
+    let half = k == values::shaped_as(Scalar::F16, k);
     let float = (single | half) & values::is_type(k);
-    float & values::same_kind(l, values::shaped_as(Scalar::I32, k))
+    float & (l == values::shaped_as(Scalar::I32, k))
 }
 
 fn is_faultless(f: Fault) -> bool

@@ -58,7 +58,7 @@ fn call_end(i: usize, words: usize) -> usize
     requires { i ≤ words }
     ensures { result ≡ i + min 54 (words - i) }
 {
-    if words - i < 54 { words } else { i + 54 }
+    i + 54.min(words - i)
 }
 
 // Folds every call, in the reading and by the engine that the caller chooses once for all. Where there is no room for all answers it writes nothing.
@@ -75,13 +75,11 @@ pub fn fold_words(
     if answers.len() < 36 * n {
         return Err(Refusal::NoRoom);
     }
-    let mut k = 0;
-    while k < n {
+    for k in 0..n {
         let i = 54 * k;
         let end = call_end(i, calls.len());
         let at = 36 * k;
         fold_one(reading, engine, &calls[i..end], &mut answers[at..at + 36]);
-        k += 1;
     }
     Ok(())
 }

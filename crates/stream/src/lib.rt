@@ -130,8 +130,8 @@ fn fold_held(
         × (out.new ≡ put out.old 0 (part_text reading (lines_in out.old) skip last (held_of buf.now at have)))
         × (result.size ≤ length (held_of buf.now at have)) × (result.used ≤ length out.old) }
 {
-    let end = cutting::least(have, buf.len());
-    let start = cutting::least(at, end);
+    let end = have.min(buf.len());
+    let start = at.min(end);
     fold_part(reading, &buf[start..end], skip, last, out)
 }
 
@@ -172,7 +172,7 @@ pub fn step(reading: Reading, buf: &mut Space, out: &mut Space, h: Held) -> Held
             done: h.last,
         };
     }
-    let end = cutting::least(have, SPACE);
+    let end = have.min(SPACE);
     Held {
         at: at + p.size,
         have: end,

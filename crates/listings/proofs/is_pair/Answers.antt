@@ -1,11 +1,11 @@
 -- A float type, no matrix, is one that keeps its type as f32 or as f16 in its shape, which is tested of each type. Assumes nothing.
 use mathlib.Core.Bool.{Bool, not, cond, ◌&&◌, ◌||◌}
-use mathlib.Core.Path.{◌≡◌, refl}
+use mathlib.Core.Path.{◌≡◌, refl, ◌∙◌}
 use Rattle.values.specs.declared.Scalar.TheVariants.{I32, F32, F16}
 use Rattle.values.specs.declared.Kind.{Kind}
 use Rattle.values.specs.Value.{is_type, shaped, same_kind}
 use Rattle.values.proofs.Bools.{agree}
-use Rattle.values.proofs.Places.{each}
+use Rattle.values.proofs.Places.{each, equals}
 use Rattle.calls.specs.Table.{Floats}
 use Rattle.calls.specs.Table.{taken}
 use Rattle.listings.specs.Answers.{is_pair}
@@ -25,4 +25,4 @@ tested k l ef es eh ea et ei em = rw (es, ef, ea, eh, et, em, ei, floats k)
 pub returns : goal.returns
 returns c =
     let a = c.args in
-    tested a.k a.l c.shaped_as.ensures c.same_kind-single.ensures c.shaped_as-2.ensures c.same_kind-half.ensures c.is_type.ensures c.shaped_as-3.ensures c.same_kind.ensures
+    tested a.k a.l c.shaped_as.ensures (c.eq-single.ensures ∙ equals _ _) c.shaped_as-2.ensures (c.eq-half.ensures ∙ equals _ _) c.is_type.ensures c.shaped_as-3.ensures (c.eq.ensures ∙ equals _ _)

@@ -4,7 +4,6 @@ use mathlib.Core.List.{List}
 use mathlib.Core.Path.{◌≡◌, refl, ap, sym, ◌∙◌}
 use native.Mathlib.Omega.{arith}
 use lib.ListN.{length, length-take, length-drop}
-use borrow.Author.Rules.{rules}
 use borrow.Author.Tests.{lt-ltb, le-ltb}
 use Rattle.buffers.specs.Memory.{put}
 use Rattle.buffers.proofs.Puts.{put_nil}
@@ -22,7 +21,7 @@ returns-then-answers-n c =
     (rw t, rw t (sym (put_nil a.answers.now 0)))
 
 pub loop-k-init : goal.loop-k-init
-loop-k-init c = (search rules, refl, refl)
+loop-k-init c = (refl, refl)
 
 pub fold_one-requires : goal.fold_one-requires
 fold_one-requires c = simp (length-take, length-drop) (omega arith)
@@ -38,7 +37,7 @@ loop-k-preserved c =
     let size : 36 * l.k + 36 - 36 * l.k ≡ 36 = omega arith in
     let room : 36 * n ≤ length l.answers = omega arith in
     let more : l.k < n = omega arith in
-    (omega arith, rw size (turn_length a.reading w l.answers n l.k more room answer ∙ l.invariant.1), rw size (l.invariant.2 ∙ turn a.reading w l.answers n l.k more room answer))
+    (rw size (turn_length a.reading w l.answers n l.k more room answer ∙ l.invariant.0), rw size (l.invariant.1 ∙ turn a.reading w l.answers n l.k more room answer))
 
 pub returns : goal.returns
 unfolding written_of_all
@@ -50,4 +49,4 @@ returns c =
     let t = le-ltb (length a.answers.now) (answer_space w) (omega arith) in
     let e : l.k ≡ n = omega arith in
     let all = rest_all a.reading w n c.call_count-n.ensures in
-    (rw t, rw t (sym (ap (put a.answers.now 0) (sym all) ∙ l.invariant.2 ∙ rw (e, rest_end a.reading w n) (put_nil l.answers (36 * n)))))
+    (rw t, rw t (sym (ap (put a.answers.now 0) (sym all) ∙ l.invariant.1 ∙ rw (e, rest_end a.reading w n) (put_nil l.answers (36 * n)))))

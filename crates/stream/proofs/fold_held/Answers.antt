@@ -12,7 +12,7 @@ pub returns : goal.returns
 returns c =
     let a = c.args in
     let n = lines_in a.out.now in
-    let m = held_part a.buf.now a.at a.have c.least-end.ensures c.least-start.ensures in
+    let m = held_part a.buf.now a.at a.have c.min-end.ensures c.min-start.ensures in
     let e = c.fold_part.ensures in (
       e.0 ∙ ap (part_of a.reading n a.skip a.last) m,
       e.1 ∙ ap (λ (l : List ℕ). put a.out.now 0 (part_text a.reading n a.skip a.last l)) m,

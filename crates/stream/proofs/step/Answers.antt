@@ -47,7 +47,7 @@ unfolding text_of
 returns c =
     let a = c.args in
     let p = rw (lines_in_lem (goal.at.returns c).After-fold_held-arg-3-1) at c.fold_held-p.ensures in
-    let m = c.least-end.ensures ∙ ap (min a.h.have) (sym (held_in (goal.at.returns c).After-fold_held-arg-3-1)) in
+    let m = c.min-end.ensures ∙ ap (min a.h.have) (sym (held_in (goal.at.returns c).After-fold_held-arg-3-1)) in
     let z = c.if-p-eq0.false in
     let l = length_held a.buf.now a.h.at a.h.have in
     let r = min-le_right a.h.have (length a.buf.now) in (
