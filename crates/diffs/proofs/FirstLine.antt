@@ -1,6 +1,6 @@
 -- Line by line the places go on while the lines are the same, and so the part at the first place is the first line that is not the same in both. Assumes nothing.
 use Prim.Native.Nat.{ℕ, zero, suc, ◌+◌, ◌-◌, ◌≤◌, ◌<◌, max}
-use mathlib.Core.Path.{◌≡◌, refl, ap}
+use mathlib.Core.Path.{◌≡◌, refl, sym, ap, ◌∙◌}
 use mathlib.Core.Bool.{Bool, true, false, cond, ◌&&◌}
 use mathlib.Core.List.{List, [], ◌∷◌}
 use native.Mathlib.Omega.{arith}
@@ -11,11 +11,13 @@ use Rattle.buffers.specs.Text.{same_bytes}
 use Rattle.cutting.specs.Lines.{lines, newline_at}
 use Rattle.listings.specs.Listing.{line_at, next_at, longest_listing}
 use Rattle.listings.proofs.ListingLines.{lines_from, next_more}
+use Rattle.std.specs.Prelude.{Option, Some, None, IfSome}
+use Rattle.std.proofs.lemmas.Option.{none-some}
 use Rattle.diffs.specs.declared.Side.{Side}
-use Rattle.diffs.specs.declared.Side.TheVariants.{Neither, Left, Right}
+use Rattle.diffs.specs.declared.Side.TheVariants.{Left, Right}
 use Rattle.diffs.specs.declared.Place.{Place}
 use Rattle.diffs.specs.Diffs.{diff_refusal, first_line, first_difference}
-use Rattle.diffs.specs.Places.{place_at, nowhere, same_at, told_place, place_from, first_place, listing_of, part_at}
+use Rattle.diffs.specs.Places.{place_at, same_at, told_place, place_from, first_place, listing_of, part_at}
 use Rattle.diffs.proofs.Walk.{lines_at, ended}
 use Rattle.diffs.proofs.Refusals.{granted}
 
@@ -37,13 +39,13 @@ line_in s i h = omega (arith, length-take (newline_at (drop i s)) (drop i s), le
 -- ---- the place of the first difference
 
 -- a place holds a line, within its listing
-pub record Holds (s t : List ℕ) (p : Place) (line : List ℕ) : Type 0 where
+pub record Holds (s t : List ℕ) (p : Option Place) (line : List ℕ) : Type 0 where
   pub part : part_at p s t ≡ line
-  pub within : p.at + p.len ≤ length (listing_of p.side s t)
+  pub within : IfSome p (λ (q : Place). q.at + q.len ≤ length (listing_of q.side s t))
 
 module _ (s t : List ℕ) where
-  holds_nothing : Holds s t nowhere []
-  holds_nothing = record { part = refl; within = omega arith }
+  holds_nothing : Holds s t None []
+  holds_nothing = record { part = refl; within = tt }
 
   holds_from : (n i j : ℕ) → (length s - i) + (length t - j) ≤ n → Holds s t (place_from n s i t j) (first_line (lines_at s i) (lines_at t j))
   unfolding place_from same_at told_place first_line
@@ -52,13 +54,13 @@ module _ (s t : List ℕ) where
     where
       by : (b c : Bool) → ltb i (length s) ≡ b → ltb j (length t) ≡ c
           → ((length s - next_at s i) + (length t - next_at t j) ≤ n → Holds s t (place_from n s (next_at s i) t (next_at t j)) (first_line (lines_at s (next_at s i)) (lines_at t (next_at t j))))
-          → Holds s t (cond (b && c && same_bytes (line_at s i) (line_at t j)) (place_from n s (next_at s i) t (next_at t j)) (cond c (place_at Right t j) (cond b (place_at Left s i) nowhere))) (first_line (lines_at s i) (lines_at t j))
+          → Holds s t (cond (b && c && same_bytes (line_at s i) (line_at t j)) (place_from n s (next_at s i) t (next_at t j)) (cond c (Some (place_at Right t j)) (cond b (Some (place_at Left s i)) None))) (first_line (lines_at s i) (lines_at t j))
       by true true e f rest =
           let x = ltb-true i (length s) e in
           let y = ltb-true j (length t) f in
           rw (lines_from s i x, lines_from t j y) (same (same_bytes (line_at s i) (line_at t j)))
         where
-          same : (b : Bool) → Holds s t (cond b (place_from n s (next_at s i) t (next_at t j)) (place_at Right t j)) (cond b (first_line (lines_at s (next_at s i)) (lines_at t (next_at t j))) (line_at t j))
+          same : (b : Bool) → Holds s t (cond b (place_from n s (next_at s i) t (next_at t j)) (Some (place_at Right t j))) (cond b (first_line (lines_at s (next_at s i)) (lines_at t (next_at t j))) (line_at t j))
           same true = rest (omega (arith, next_more s i (ltb-true i (length s) e), next_more t j (ltb-true j (length t) f)))
           same false = record { part = line_there t j; within = line_in t j (ltb-true j (length t) f) }
       by true false e f rest =
@@ -67,7 +69,7 @@ module _ (s t : List ℕ) where
           rw ((ended s i (ltb-false i (length s) e)).0, lines_from t j (ltb-true j (length t) f)) (record { part = line_there t j; within = line_in t j (ltb-true j (length t) f) })
       by false false e f rest = rw ((ended s i (ltb-false i (length s) e)).0, (ended t j (ltb-false j (length t) f)).0) holds_nothing
 
-  refused_nowhere : eqb (diff_refusal s t) 0 ≡ false → first_place s t ≡ nowhere
+  refused_nowhere : eqb (diff_refusal s t) 0 ≡ false → first_place s t ≡ None
   unfolding first_place
   refused_nowhere f = rw f
 
@@ -75,7 +77,7 @@ module _ (s t : List ℕ) where
   unfolding first_place first_difference
   holds_first = by (eqb (diff_refusal s t) 0)
     where
-      by : (b : Bool) → Holds s t (cond b (place_from (length s + length t) s 0 t 0) nowhere) (cond b (first_line (lines s) (lines t)) [])
+      by : (b : Bool) → Holds s t (cond b (place_from (length s + length t) s 0 t 0) None) (cond b (first_line (lines s) (lines t)) [])
       by true = holds_from (length s + length t) 0 0 (omega arith)
       by false = holds_nothing
 
@@ -117,37 +119,37 @@ module _ (s t : List ℕ) where
 
   -- ---- by what the code finds
 
-  module _ {p : Place} (e : p ≡ first_place s t) where
+  longest : (side : Side) → length (listing_of side s t) ≤ max (length s) (length t)
+  longest Left = omega arith
+  longest Right = omega arith
+
+  module _ {p : Option Place} (e : p ≡ first_place s t) where
     found : Holds s t p (first_difference s t)
     found = rw e holds_first
 
-    longest : (side : Side) → length (listing_of side s t) ≤ max (length s) (length t)
-    longest Neither = omega arith
-    longest Left = omega arith
-    longest Right = omega arith
+    pub none_found : p ≡ None → [] ≡ first_difference s t
+    none_found f = rw f at found.part
 
-    pub end_fits : p.at + p.len ≤ max (length s) (length t)
-    end_fits = omega (arith, found.within, longest p.side)
+    module _ {q : Place} (f : p ≡ Some q) where
+      there : Holds s t (Some q) (first_difference s t)
+      there = rw f at found
 
-    -- a listing that is not refused has at most 32,768 bytes
-    pub place_few : p.at + p.len ≤ longest_listing
-    place_few = by (eqb (diff_refusal s t) 0) refl
-      where
-        by : (b : Bool) → eqb (diff_refusal s t) 0 ≡ b → p.at + p.len ≤ longest_listing
-        by true f = let g = granted s t (eqb-true (diff_refusal s t) 0 f) in omega (arith, end_fits, g.0.short, g.1.short)
-        by false f = rw (e, refused_nowhere f) (omega arith)
+      pub end_fits : q.at + q.len ≤ max (length s) (length t)
+      end_fits = omega (arith, there.within, longest q.side)
 
-    pub none_found : p.side ≡ Neither → [] ≡ first_difference s t
-    none_found f =
-        let h = rw f at found.within in
-        let l : p.len ≡ 0 = omega (arith, h) in
-        rw l at found.part
+      -- a listing that is not refused has at most 32,768 bytes
+      pub place_few : q.at + q.len ≤ longest_listing
+      place_few = by (eqb (diff_refusal s t) 0) refl
+        where
+          by : (b : Bool) → eqb (diff_refusal s t) 0 ≡ b → q.at + q.len ≤ longest_listing
+          by true g = let h = granted s t (eqb-true (diff_refusal s t) 0 g) in omega (arith, end_fits, h.0.short, h.1.short)
+          by false g = absurd (none-some q (sym (refused_nowhere g) ∙ sym e ∙ f))
 
-    module _ (side : Side) (f : p.side ≡ side) where
-      pub end_within : p.at + p.len ≤ length (listing_of side s t)
-      end_within = rw f at found.within
+      module _ {l : List ℕ} (g : l ≡ listing_of q.side s t) where
+        pub end_within : q.at + q.len ≤ length l
+        end_within = rw g there.within
 
-      pub part_found : take (p.at + p.len - p.at) (drop p.at (listing_of side s t)) ≡ first_difference s t
-      part_found =
-          let l : p.at + p.len - p.at ≡ p.len = omega arith in
-          rw l (rw f at found.part)
+        pub part_found : take (q.at + q.len - q.at) (drop q.at l) ≡ first_difference s t
+        part_found =
+            let n : q.at + q.len - q.at ≡ q.len = omega arith in
+            rw (g, n) there.part

@@ -1,16 +1,17 @@
 // How two listings differ: the kind of each line, and the first line that differs as it stands in its listing.
 #![tactic(auto)]
 
-ghost use Rattle.std.specs.Prelude.{◌≡◌, cond, ◌+◌, ◌≤◌, max, length};
+ghost use Rattle.std.specs.Prelude.{◌≡◌, cond, ◌+◌, ◌≤◌, length};
 ghost use Rattle.buffers.specs.Memory.{put};
 ghost use Rattle.diffs.specs.Diffs.{both_refusal, compared_in, kinds_in, first_difference};
-ghost use Rattle.diffs.specs.Places.{difference_at, kinds_from, place_at, nowhere, same_at, told_place, place_from, first_place};
+ghost use Rattle.diffs.specs.Places.{difference_at, kinds_from, place_at, same_at, told_place, place_from, first_place, listing_of};
 
 use choosing::choose;
 use kinds::Difference;
 use listings::Judged;
 
 // What became of two listings: the refusal, 0 where there is none, and then how many lines the longer one has.
+// No Result: the clauses of compare_listings and diff_number name refusal and count, which C reads as one number.
 #[derive(Clone, Copy)]
 pub struct Compared {
     pub refusal: u8,
@@ -19,7 +20,6 @@ pub struct Compared {
 
 #[derive(Clone, Copy)]
 pub enum Side {
-    Neither,
     Left,
     Right,
 }
@@ -33,12 +33,6 @@ pub struct Place {
 }
 
 // ---- refusals
-
-fn greatest(a: usize, b: usize) -> usize
-    ensures { result ≡ max a b }
-{
-    if a < b { b } else { a }
-}
 
 // Of what is found of the two listings.
 fn both_refusal(left: Judged, right: Judged) -> u8
@@ -56,12 +50,9 @@ fn judge_both(left: &[u8], right: &[u8], room: usize) -> Compared
     let l = listings::judge_listing(left);
     let r = listings::judge_listing(right);
     let refusal = both_refusal(l, r);
-    let count = greatest(l.count, r.count);
+    let count = l.count.max(r.count);
     if refusal != 0 {
-        return Compared {
-            refusal: refusal,
-            count: 0,
-        };
+        return Compared { refusal, count: 0 };
     }
     if room < count {
         return Compared {
@@ -69,10 +60,7 @@ fn judge_both(left: &[u8], right: &[u8], room: usize) -> Compared
             count: 0,
         };
     }
-    Compared {
-        refusal: 0,
-        count: count,
-    }
+    Compared { refusal: 0, count }
 }
 
 // ---- the kinds
@@ -99,12 +87,10 @@ fn put_kinds(left: &[u8], right: &[u8], kinds: &mut [u8], n: usize)
 {
     let mut i: usize = 0;
     let mut j: usize = 0;
-    let mut k: usize = 0;
-    while k < n {
+    for k in 0..n {
         kinds[k] = kinds::kind_number(difference_at(left, i, right, j));
         i = listings::next_at(left, i);
         j = listings::next_at(right, j);
-        k += 1;
     }
 }
 
@@ -123,26 +109,12 @@ pub fn compare_listings(left: &[u8], right: &[u8], kinds: &mut [u8]) -> Compared
 
 // ---- the first difference
 
-fn nowhere() -> Place
-    ensures { result ≡ nowhere }
-{
-    Place {
-        side: Side::Neither,
-        at: 0,
-        len: 0,
-    }
-}
-
 // The line of a listing that starts at a place.
 fn place_at(side: Side, listing: &[u8], at: usize) -> Place
     ensures { result ≡ place_at side listing.now at }
 {
-    let line = listings::line_at(listing, at);
-    Place {
-        side: side,
-        at: at,
-        len: line.len(),
-    }
+    let len = listings::line_at(listing, at).len();
+    Place { side, at, len }
 }
 
 // Whether both listings have a line at these places, and the same.
@@ -154,20 +126,21 @@ fn same_at(left: &[u8], i: usize, right: &[u8], j: usize) -> bool
 }
 
 // Of the lines at these places, which are not the same.
-fn told_place(left: &[u8], i: usize, right: &[u8], j: usize) -> Place
+#[tactic(auto, unfolding(crate::specs::Places::told_place))]
+fn told_place(left: &[u8], i: usize, right: &[u8], j: usize) -> Option<Place>
     ensures { result ≡ told_place left.now i right.now j }
 {
     if j < right.len() {
-        return place_at(Side::Right, right, j);
+        return Some(place_at(Side::Right, right, j));
     }
     if i < left.len() {
-        return place_at(Side::Left, left, i);
+        return Some(place_at(Side::Left, left, i));
     }
-    nowhere()
+    None
 }
 
 // The first line that is not the same in both.
-fn place_from(left: &[u8], right: &[u8]) -> Place
+fn place_from(left: &[u8], right: &[u8]) -> Option<Place>
     ensures { result ≡ place_from (length left.now + length right.now) left.now 0 right.now 0 }
 {
     let mut i: usize = 0;
@@ -179,29 +152,37 @@ fn place_from(left: &[u8], right: &[u8]) -> Place
     told_place(left, i, right, j)
 }
 
-// Where it stands: the line of the right listing, or of the one that goes on where the other has ended.
-pub fn first_place(left: &[u8], right: &[u8]) -> Place
+// Where it stands, if anywhere: the line of the right listing, or of the one that goes on where the other has ended.
+pub fn first_place(left: &[u8], right: &[u8]) -> Option<Place>
     ensures { result ≡ first_place left.now right.now }
 {
     let l = listings::judge_listing(left);
     let r = listings::judge_listing(right);
     if both_refusal(l, r) != 0 {
-        return nowhere();
+        return None;
     }
     place_from(left, right)
+}
+
+// The listing on a side.
+fn listing_of<'a>(side: Side, left: &'a [u8], right: &'a [u8]) -> &'a [u8]
+    ensures { result.now ≡ listing_of side left.now right.now }
+{
+    match side {
+        Side::Left => left,
+        Side::Right => right,
+    }
 }
 
 // The first line that differs, as it stands in its listing, without its newline; an empty part where none differs or a listing is refused.
 pub fn first_difference<'a>(left: &'a [u8], right: &'a [u8]) -> &'a [u8]
     ensures { result.now ≡ first_difference left.now right.now }
 {
-    let p = first_place(left, right);
-    let at = p.at;
-    let end = p.at + p.len;
-    let side = p.side;
-    match side {
-        Side::Neither => &left[0..0],
-        Side::Left => &left[at..end],
-        Side::Right => &right[at..end],
+    match first_place(left, right) {
+        Some(p) => {
+            let listing = listing_of(p.side, left, right);
+            &listing[p.at..p.at + p.len]
+        }
+        None => &left[0..0],
     }
 }

@@ -1,19 +1,12 @@
 // Prints how the listings left.txt and right.txt of the folder that it is run in differ.
 #![tactic(auto)]
 
-ghost use Rattle.std.specs.Prelude.{◌≤◌, length, IfOk};
+ghost use Rattle.std.specs.Prelude.{◌≤◌, length, IfOk, IfSome};
 
 use std::fs::File;
 use std::io;
 use std::io::Write;
 use stream::{SPACE, Space};
-
-// What was read of a file; not `good` where it could not be.
-#[derive(Clone, Copy)]
-struct Content {
-    good: bool,
-    len: usize,
-}
 
 // What the system says of an error, without its number.
 fn words(text: &str) -> &str {
@@ -30,17 +23,6 @@ fn tell(rt: &HostRuntime, name: &str, error: io::Error) -> io::Result<()> {
     eprintln!(rt; "{name}: {said}")
 }
 
-// Names a file that cannot be opened or read on standard error. Where that fails too, there is nobody left to tell.
-fn failed(rt: &HostRuntime, name: &str, error: io::Error) -> Content
-    ensures { result.len ≤ 0 }
-{
-    let _ = tell(rt, name, error).is_ok();
-    Content {
-        good: false,
-        len: 0,
-    }
-}
-
 // Reads a file, as much of it as the lent memory has room for.
 fn read(rt: &HostRuntime, name: &str, buf: &mut [u8]) -> io::Result<usize>
     ensures { IfOk result (λ n. n ≤ length buf.new) }
@@ -49,13 +31,16 @@ fn read(rt: &HostRuntime, name: &str, buf: &mut [u8]) -> io::Result<usize>
     refilling::fill(&mut file, buf)
 }
 
-// The same, with a failure told.
-fn read_file(rt: &HostRuntime, name: &str, buf: &mut [u8]) -> Content
-    ensures { result.len ≤ length buf.new }
+// The same, with a failure told. Where that fails too, there is nobody left to tell.
+fn read_file(rt: &HostRuntime, name: &str, buf: &mut [u8]) -> Option<usize>
+    ensures { IfSome result (λ n. n ≤ length buf.new) }
 {
     match read(rt, name, buf) {
-        Ok(len) => Content { good: true, len },
-        Err(error) => failed(rt, name, error),
+        Ok(n) => Some(n),
+        Err(error) => {
+            let _ = tell(rt, name, error).is_ok();
+            None
+        }
     }
 }
 
@@ -72,15 +57,15 @@ fn print_parts<W: Write>(
     kinds: &[u8],
     out: &mut Space,
 ) -> io::Result<()> {
-    let mut done: usize = 0;
-    let mut more = true;
-    while more {
+    let mut done = 0;
+    loop {
         let p = telling::diff_part(refusal, kinds, done, out);
         print(output, out, p.used)?;
-        more = p.done < kinds.len();
+        if p.done >= kinds.len() {
+            return Ok(());
+        }
         done = p.done;
     }
-    Ok(())
 }
 
 // How two listings differ. No listing has more lines than 32,768 bytes.
@@ -97,10 +82,8 @@ fn main(rt: HostRuntime) -> io::Result<()> {
     let mut out = [0; SPACE];
     let l = read_file(&rt, "left.txt", &mut left);
     let r = read_file(&rt, "right.txt", &mut right);
-    let m = l.len;
-    let n = r.len;
-    if l.good & r.good {
-        return differ(&mut rt.stdout(), &left[0..m], &right[0..n], &mut out);
+    if let (Some(m), Some(n)) = (l, r) {
+        return differ(&mut rt.stdout(), &left[..m], &right[..n], &mut out);
     }
     Ok(())
 }

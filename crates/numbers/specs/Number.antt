@@ -1,5 +1,5 @@
 -- An answer as one number, for a program that links the library. Definitions only.
-use Rattle.std.specs.Prelude.{ℕ, ◌+◌, ◌*◌, ◌^◌}
+use Rattle.std.specs.Prelude.{ℕ, ◌+◌, ◌*◌, ◌^◌, Option, Some, None}
 use Rattle.losses.specs.declared.Converted.{Converted}
 use Rattle.losses.specs.Losses.{loss_number}
 use Rattle.answers.specs.declared.LineAnswer.{LineAnswer}
@@ -8,7 +8,7 @@ use Rattle.writing.specs.declared.Written.{Written}
 use Rattle.sorting.specs.declared.Sorted.{Sorted}
 use Rattle.diffs.specs.declared.Compared.{Compared}
 use Rattle.diffs.specs.declared.Side.{Side}
-use Rattle.diffs.specs.declared.Side.TheVariants.{Neither, Left, Right}
+use Rattle.diffs.specs.declared.Side.TheVariants.{Left, Right}
 use Rattle.diffs.specs.declared.Place.{Place}
 
 -- of a conversion, its half and what was lost
@@ -41,9 +41,10 @@ diff_number c = refusal_or_count c.refusal c.count
 
 -- which listing, where in it, and how many bytes: a listing has at most 32,768
 abbrev pub side_number : Side → ℕ
-side_number Neither = 0
 side_number Left = 1
 side_number Right = 2
 
-abbrev pub place_number : Place → ℕ
-place_number p = side_number p.side * 2 ^ 32 + p.at * 2 ^ 16 + p.len
+-- 0 where there is none
+abbrev pub place_number : Option Place → ℕ
+place_number None = 0
+place_number (Some p) = side_number p.side * 2 ^ 32 + p.at * 2 ^ 16 + p.len

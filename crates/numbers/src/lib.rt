@@ -1,7 +1,7 @@
 // Answers as one number each, for programs that link the library: a refusal, or how much there is of an answer.
 #![tactic(auto)]
 
-ghost use Rattle.std.specs.Prelude.{◌≡◌, ◌+◌, ◌<◌, ◌≤◌};
+ghost use Rattle.std.specs.Prelude.{◌≡◌, ◌+◌, ◌<◌, ◌≤◌, IfSome};
 ghost use Rattle.numbers.specs.Number.{told_number, refusal_or_count, line_number, read_number, written_number, sort_number, diff_number, side_number, place_number};
 
 use answers::LineAnswer;
@@ -63,18 +63,19 @@ fn side_number(s: Side) -> u64
     ensures { (result ≡ side_number s) × (result ≤ 2) }
 {
     match s {
-        Side::Neither => 0,
         Side::Left => 1,
         Side::Right => 2,
     }
 }
 
-pub fn place_number(p: Place) -> u64
-    requires { (p.at < 65536) × (p.len < 65536) }
+pub fn place_number(p: Option<Place>) -> u64
+    requires { IfSome p (λ q. (q.at < 65536) × (q.len < 65536)) }
     ensures { result ≡ place_number p }
 {
-    let side = p.side;
-    let at = p.at;
-    let len = p.len;
-    side_number(side) * 0x1_0000_0000 + (at as u64) * 0x1_0000 + len as u64
+    match p {
+        Some(Place { side, at, len }) => {
+            side_number(side) * 0x1_0000_0000 + (at as u64) * 0x1_0000 + len as u64
+        }
+        None => 0,
+    }
 }

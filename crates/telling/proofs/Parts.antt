@@ -1,15 +1,14 @@
 -- A part is written line by line: what is written and what is still to be written are the part. It always fits, as 4,096 lines of at most 14 bytes do, and so does a refusal. Assumes nothing.
-use Prim.Native.Nat.{ℕ, zero, suc, ◌+◌, ◌-◌, ◌*◌, ◌≤◌, ◌<◌}
+use Prim.Native.Nat.{ℕ, suc, ◌+◌, ◌-◌, ◌*◌, ◌≤◌, ◌<◌, min}
 use mathlib.Core.Path.{◌≡◌, refl, sym, ap, ◌∙◌}
-use mathlib.Core.Bool.{true, false, ◌&&◌}
+use mathlib.Core.Bool.{Bool, true, false}
 use mathlib.Core.List.{List, [], ◌∷◌, ◌++◌}
 use native.Mathlib.Omega.{arith}
 use native.Mathlib.Numerals.{add-one}
-use borrow.Author.Tests.{ltb-true, ltb-false, lt-ltb, ne_eqb}
+use borrow.Author.Tests.{ltb-true, ltb-false, ne_eqb}
 use lib.Dec.{ltb}
-use lib.ListN.{length, take, drop, get_or, length-append, drop_of_length-le}
-use lib.Seq.{drop-cons}
-use Rattle.values.proofs.Bools.{both}
+use lib.ListN.{length, take, drop, get_or, length-append, length-drop}
+use lib.Seq.{drop-cons, take_all}
 use Rattle.buffers.specs.Memory.{put}
 use Rattle.buffers.proofs.Puts.{Made, put_nil, put_put, put_length}
 use Rattle.stream.specs.Stream.{space}
@@ -26,67 +25,68 @@ abbrev rest : List ℕ → ℕ → ℕ → List ℕ
 rest ks i left = take left (drop i ks)
 
 module _ (ks : List ℕ) where
-  rest_more : (i left : ℕ) → i < length ks → 0 < left → rest ks i left ≡ get_or ks i 0 ∷ rest ks (i + 1) (left - 1)
-  rest_more i zero h p = absurd (omega arith)
-  rest_more i (suc m) h p =
-      let e : suc m - 1 ≡ m = omega arith in
-      rw (e, add-one i, drop-cons ks i 0 h)
+  rest_more : (i end : ℕ) → i < length ks → i < end → rest ks i (end - i) ≡ get_or ks i 0 ∷ rest ks (i + 1) (end - (i + 1))
+  rest_more i end h p =
+      let m : end - i ≡ suc (end - (i + 1)) = omega arith in
+      rw (m, add-one i, drop-cons ks i 0 h)
 
-  rest_none : (i left : ℕ) → ltb 0 left && ltb i (length ks) ≡ false → rest ks i left ≡ []
-  rest_none i zero e = refl
-  rest_none i (suc m) e = rw (drop_of_length-le ks (ltb-false i (length ks) (rw (lt-ltb 0 (suc m) (omega arith)) at e)))
-
-  pub more_left : (i left : ℕ) → ltb 0 left && ltb i (length ks) ≡ true → (0 < left) × (i < length ks)
-  more_left i left e =
-      let t = both (ltb 0 left) (ltb i (length ks)) e in
-      (ltb-true 0 left t.0, ltb-true i (length ks) t.1)
+  -- as many as are left, where those are fewer than a part has
+  rest_whole : (done left : ℕ) → left ≡ min part_lines (length ks - done) → rest ks done left ≡ part_kinds ks done
+  rest_whole done left e = by (ltb (length ks - done) part_lines) refl
+    where
+      by : (b : Bool) → ltb (length ks - done) part_lines ≡ b → rest ks done left ≡ part_kinds ks done
+      by true f =
+          let h = ltb-true (length ks - done) part_lines f in
+          take_all left (drop done ks) (omega (arith, length-drop done ks)) ∙ sym (take_all part_lines (drop done ks) (omega (arith, length-drop done ks)))
+      by false f =
+          let h = ltb-false (length ks - done) part_lines f in
+          let l : left ≡ part_lines = omega arith in
+          rw l
 
   -- the invariant of the loop: what is written and what is still to be written are the part
-  pub record Partly (done : ℕ) (o out : List ℕ) (at i left : ℕ) : Type 0 where
+  pub record Partly (done : ℕ) (o out : List ℕ) (at i end : ℕ) : Type 0 where
     pub size : length out ≡ length o
-    pub room : at + left * 14 ≤ part_lines * 14
-    pub used : at + length (kinds_text (suc i) (rest ks i left)) ≡ length (diff_part_text 0 ks done)
-    pub written : put out at (kinds_text (suc i) (rest ks i left)) ≡ put o 0 (diff_part_text 0 ks done)
-    pub lines : i + length (rest ks i left) ≡ done + length (part_kinds ks done)
+    pub room : at + (end - i) * 14 ≤ part_lines * 14
+    pub used : at + length (kinds_text (suc i) (rest ks i (end - i))) ≡ length (diff_part_text 0 ks done)
+    pub written : put out at (kinds_text (suc i) (rest ks i (end - i))) ≡ put o 0 (diff_part_text 0 ks done)
+    pub lines : i + length (rest ks i (end - i)) ≡ done + length (part_kinds ks done)
 
-  pub none_yet : (done : ℕ) (o : List ℕ) → Partly done o o 0 done part_lines
+  pub none_yet : (done end : ℕ) (o : List ℕ) → end - done ≡ min part_lines (length ks - done) → Partly done o o 0 done end
   unfolding diff_part_text
-  none_yet done o = record { size = refl; room = omega arith; used = omega arith; written = refl; lines = refl }
+  none_yet done end o e =
+      let w = rest_whole done (end - done) e in
+      record { size = refl; room = omega arith; used = rw w (omega arith); written = rw w; lines = rw w }
 
-  module _ {done : ℕ} {o out : List ℕ} {at i left : ℕ} (w : Partly done o out at i left) where
-    module _ (e : ltb 0 left && ltb i (length ks) ≡ true) (g : space ≤ length o) where
-      both_more : (0 < left) × (i < length ks)
-      both_more = more_left i left e
-
+  module _ {done : ℕ} {o out : List ℕ} {at i end : ℕ} (w : Partly done o out at i end) where
+    module _ (below : i < end) (here : i < length ks) (g : space ≤ length o) where
       pub line_fits : at + length (kind_text (i + 1) (get_or ks i 0)) ≤ length out
-      line_fits = omega (arith, both_more, line_room_lem (i + 1) (get_or ks i 0))
+      line_fits = omega (arith, w.room, w.size, line_room_lem (i + 1) (get_or ks i 0))
 
-      text_more : kinds_text (suc i) (rest ks i left) ≡ kind_text (i + 1) (get_or ks i 0) ++ kinds_text (suc (i + 1)) (rest ks (i + 1) (left - 1))
+      text_more : kinds_text (suc i) (rest ks i (end - i)) ≡ kind_text (i + 1) (get_or ks i 0) ++ kinds_text (suc (i + 1)) (rest ks (i + 1) (end - (i + 1)))
       unfolding kinds_text
-      text_more = rw (rest_more i left both_more.1 both_more.0, add-one i)
+      text_more = rw (rest_more i end here below, add-one i)
 
-      pub line_more : {at' : ℕ} {out' : List ℕ} → Made out at (kind_text (i + 1) (get_or ks i 0)) at' out' → Partly done o out' at' (i + 1) (left - 1)
+      pub line_more : {at' : ℕ} {out' : List ℕ} → Made out at (kind_text (i + 1) (get_or ks i 0)) at' out' → Partly done o out' at' (i + 1) end
       line_more (a, b) =
           let k = kind_text (i + 1) (get_or ks i 0) in
-          let t = kinds_text (suc (i + 1)) (rest ks (i + 1) (left - 1)) in
+          let t = kinds_text (suc (i + 1)) (rest ks (i + 1) (end - (i + 1))) in
           let u = ap length text_more ∙ length-append k t in
-          let n = ap length (rest_more i left both_more.1 both_more.0) in
+          let n = ap length (rest_more i end here below) in
           record {
             size = ap length b ∙ put_length out at k line_fits ∙ w.size;
-            room = omega (arith, both_more, line_room_lem (i + 1) (get_or ks i 0));
+            room = omega (arith, w.room, line_room_lem (i + 1) (get_or ks i 0));
             used = omega (arith, w.used);
             written = rw (b, a, put_put out at k line_fits t, ← text_more) w.written;
             lines = omega (arith, w.lines);
           }
 
-    pub part_done : ltb 0 left && ltb i (length ks) ≡ false
-        → (◌≡◌ {A = DiffPart} (record { done = i; used = at }) (diff_part_of 0 ks done)) × (out ≡ put o 0 (diff_part_text 0 ks done)) × (at ≤ space)
+    pub part_done : i ≡ end → (◌≡◌ {A = DiffPart} (record { done = end; used = at }) (diff_part_of 0 ks done)) × (out ≡ put o 0 (diff_part_text 0 ks done)) × (at ≤ space)
     unfolding diff_part_of kinds_text
     part_done e =
-        let n = rest_none i left e in
-        let l : i ≡ done + length (part_kinds ks done) = omega (arith, rw n at w.lines) in
+        let n : end - i ≡ 0 = omega arith in
+        let l : end ≡ done + length (part_kinds ks done) = omega (arith, rw n at w.lines) in
         let u : at ≡ length (diff_part_text 0 ks done) = omega (arith, rw n at w.used) in
-        (rw (l, u), sym (put_nil out at) ∙ (rw n at w.written), omega arith)
+        (rw (l, u), sym (put_nil out at) ∙ (rw n at w.written), omega (arith, w.room))
 
 -- ---- the refusal
 

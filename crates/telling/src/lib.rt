@@ -18,22 +18,17 @@ pub struct DiffPart {
     pub used: usize,
 }
 
+#[tactic(auto, unfolding(crate::specs::Text::number_places))]
 fn places_of(v: usize) -> usize
     ensures { result ≡ number_places v }
 {
-    if v < 10 {
-        return 1;
+    match v {
+        0..=9 => 1,
+        10..=99 => 2,
+        100..=999 => 3,
+        1000..=9999 => 4,
+        _ => 5,
     }
-    if v < 100 {
-        return 2;
-    }
-    if v < 1000 {
-        return 3;
-    }
-    if v < 10000 {
-        return 4;
-    }
-    5
 }
 
 // A kind's word, by its number.
@@ -67,6 +62,7 @@ fn put_kind(out: &mut [u8], at: usize, n: usize, kind: u8) -> usize
 }
 
 // The part of the text that follows the lines that are done, or the refusal alone.
+// The refusal and the kinds are numbers, as C reads them from chanrelout_diff and as diff_part_text and Told have them.
 pub fn diff_part(refusal: u8, kinds: &[u8], done: usize, out: &mut Space) -> DiffPart
     ensures { (result ≡ diff_part_of refusal kinds.now done) × (out.new ≡ put out.old 0 (diff_part_text refusal kinds.now done))
         × (result.used ≤ space) }
@@ -87,13 +83,13 @@ fn put_part(kinds: &[u8], done: usize, out: &mut [u8]) -> DiffPart
     ensures { (result ≡ diff_part_of 0 kinds.now done) × (out.new ≡ put out.old 0 (diff_part_text 0 kinds.now done))
         × (result.used ≤ space) }
 {
-    let mut at: usize = 0;
-    let mut i = done;
-    let mut left = PART_LINES;
-    while (left > 0) & (i < kinds.len()) {
+    let end = done.saturating_add(PART_LINES).min(kinds.len()).max(done);
+    let mut at = 0;
+    for i in done..end {
         at = put_kind(out, at, i + 1, kinds[i]);
-        i += 1;
-        left -= 1;
     }
-    DiffPart { done: i, used: at }
+    DiffPart {
+        done: end,
+        used: at,
+    }
 }

@@ -9,7 +9,7 @@ unfolding first_place
 returns-then-both_refusal-ne0 c =
     let a = c.args in
     let r = found a.left.now a.right.now c.judge_listing-l.ensures c.judge_listing-r.ensures c.both_refusal.ensures in
-    rw (← r, ne_eqb c.both_refusal.result 0 c.if-both_refusal-ne0.true) c.nowhere.ensures
+    rw (← r, ne_eqb c.both_refusal.result 0 c.if-both_refusal-ne0.true)
 
 pub returns : goal.returns
 unfolding first_place

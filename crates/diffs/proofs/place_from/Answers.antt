@@ -1,5 +1,4 @@
 -- The invariant: the first place from here on is the first place of all; the lines that are left are enough for the walk. Assumes nothing.
-use Prim.Native.Nat.{◌-◌}
 use mathlib.Core.Path.{sym, ◌∙◌}
 use native.Mathlib.Omega.{arith}
 use Rattle.listings.proofs.ListingLines.{next_in, next_more}

@@ -1,5 +1,5 @@
 -- The invariant: what is written and what is still to be written are all kinds. Assumes nothing.
-use Prim.Native.Nat.{◌-◌, ◌≤◌}
+use Prim.Native.Nat.{◌-◌}
 use mathlib.Core.Path.{◌≡◌}
 use lib.ListN.{length}
 use Rattle.buffers.specs.Memory.{put}
@@ -7,7 +7,4 @@ use Rattle.diffs.specs.Places.{kinds_from}
 use Rattle.diffs.proofs.put_kinds.Given as goal
 
 abbrev pub invariant-loop-k : goal.invariant-loop-k
-invariant-loop-k l = (l.k ≤ l.n) × (length l.kinds ≡ length l.initial.kinds) × (put l.kinds l.k (kinds_from (l.n - l.k) l.left l.i l.right l.j) ≡ put l.initial.kinds 0 (kinds_from l.n l.left 0 l.right 0))
-
-abbrev pub decreases-loop-k : goal.decreases-loop-k
-decreases-loop-k l = l.n - l.k
+invariant-loop-k l = (length l.kinds ≡ length l.initial.kinds) × (put l.kinds l.k (kinds_from (l.n - l.k) l.left l.i l.right l.j) ≡ put l.initial.kinds 0 (kinds_from l.n l.left 0 l.right 0))

@@ -1,8 +1,10 @@
--- Less is left after each part, and nothing after the last. Assumes nothing.
+-- Less is left after each part, where it is not the last. Assumes nothing.
+use native.Mathlib.Omega.{arith}
+use borrow.Author.Tests.{lt-ltb}
 use Rattle.diffs.proofs.AllParts.{less_left}
 use Rattle.folddiff.proofs.print_parts.Goals as goal
 
-pub loop-more-smaller : goal.loop-more-smaller
-loop-more-smaller g c =
-    let l = c.loop-more in
-    rw c.loop-more-test.true (less_left c.args.refusal c.args.kinds.now l.done c.diff_part-p.ensures.0)
+pub loop-done-smaller : goal.loop-done-smaller
+loop-done-smaller g c =
+    let h = rw (lt-ltb _ _ c.if-p-kinds.false) at (less_left c.args.refusal c.args.kinds.now c.loop-done.done c.diff_part-p.ensures.0) in
+    omega (arith, h)

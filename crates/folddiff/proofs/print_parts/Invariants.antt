@@ -1,6 +1,6 @@
--- Less is left after each part, and nothing after the last. Assumes nothing.
-use Rattle.std.proofs.Common.{suc, ◌-◌, cond, length}
+-- Less is left after each part. Assumes nothing.
+use Rattle.std.proofs.Common.{◌-◌, length}
 use Rattle.folddiff.proofs.print_parts.Given as goal
 
-abbrev pub decreases-loop-more : goal.decreases-loop-more
-decreases-loop-more g l = cond l.more (suc (length l.kinds - l.done)) 0
+abbrev pub decreases-loop-done : goal.decreases-loop-done
+decreases-loop-done g l = length l.kinds - l.done
