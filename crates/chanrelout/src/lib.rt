@@ -110,7 +110,9 @@ pub extern "C" fn chanrelout_calls_by(
         × (out.new ≡ put out.old 0 (cond (is_reading reading && is_engine engine) (written_of_all (reading_at reading) (length out.old) calls.now) [])) }
 {
     match choices(reading, engine) {
-        Some((reading, engine)) => refusals::told(materials::fold_words(reading, engine, calls, out)),
+        Some((reading, engine)) => refusals::told(materials::fold_words(
+            reading, engine, calls, out,
+        )),
         None => NO_SUCH_CHOICE,
     }
 }

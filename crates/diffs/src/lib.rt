@@ -139,7 +139,7 @@ fn told_place(left: &[u8], i: usize, right: &[u8], j: usize) -> Option<Place>
     None
 }
 
-// The first line that is not the same in both.
+// The first line that is not the same in both. No `for`: two places go on until the lines differ, and nothing is counted.
 fn place_from(left: &[u8], right: &[u8]) -> Option<Place>
     ensures { result ≡ place_from (length left.now + length right.now) left.now 0 right.now 0 }
 {

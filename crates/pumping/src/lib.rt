@@ -52,7 +52,7 @@ fn turns_left(done: bool, turns: u64) -> u64
     if done { 0 } else { turns - 1 }
 }
 
-// Turn after turn until all is done. A read or a write that fails ends it.
+// Turn after turn until all is done. A read or a write that fails ends it. No `for` over the turns: it was tried, and asks for the same facts at both of its ends.
 pub fn pump<R: Read, W: Write>(
     reading: Reading,
     input: &mut R,
