@@ -10,6 +10,7 @@ use choosing::choose;
 // ---- bytes
 
 // Whether two slices hold the same bytes.
+#[tactic(auto, using(std::proofs::lemmas::Grind::common_steps, crate::proofs::Lookup::same_pointwise))]
 pub fn same(a: &[u8], b: &[u8]) -> bool
     ensures { result ≡ same_bytes a.now b.now }
 {

@@ -144,6 +144,8 @@ fn scaled(m: u32, n: u32) -> u32
     }
 }
 
+// Not inlined, as limits' step_lane.
+#[inline(never)]
 pub fn ldexp_lane(x: u32, n: u32) -> u32
     ensures { result ≡ ldexp_lane x n }
 {

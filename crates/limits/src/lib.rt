@@ -94,10 +94,12 @@ pub fn clamp_lane(s: Scalar, e: u32, low: u32, high: u32) -> u32
     min_lane(s, max_lane(s, e, low), high)
 }
 
+// First the max of all lanes, then the min of all: lane by lane it takes a fifth more instructions.
 pub fn clamp(s: Scalar, e: [u32; 4], low: [u32; 4], high: [u32; 4]) -> [u32; 4]
     ensures { result ≡ four3 (clamp_lane s) e low high }
 {
-    std::array::from_fn(|i| clamp_lane(s, e[i], low[i], high[i]))
+    let raised: [u32; 4] = std::array::from_fn(|i| max_lane(s, e[i], low[i]));
+    std::array::from_fn(|i| min_lane(s, raised[i], high[i]))
 }
 
 pub fn saturate_lane(x: u32) -> u32
@@ -120,6 +122,8 @@ fn at_most(x: u32, y: u32) -> bool
     floats::f32_of(x) <= floats::f32_of(y)
 }
 
+// Not inlined: with four copies of it the arms are too large to be worked out within the fold, and every call of words pays for a call.
+#[inline(never)]
 pub fn step_lane(s: Scalar, edge: u32, x: u32) -> u32
     ensures { result ≡ step_lane s edge x }
 {

@@ -87,11 +87,13 @@ pub fn put_transposed(w: &[u64], p: u64, out: &mut [u64])
     }
 }
 
-// The words s, at the start of the lent memory.
-#[tactic(auto, unfolding(buffers::specs::Memory::put))]
+// The words s, at the start of the lent memory. By a loop: `copy_from_slice` copies by memmove, which a program that links the library may
+// not have.
 pub fn put_copy(s: &[u64], out: &mut [u64])
     requires { length s.now ≤ length out.old }
     ensures { out.new ≡ put out.old 0 s.now }
 {
-    out[..s.len()].copy_from_slice(s);
+    for (i, x) in s.iter().enumerate() {
+        out[i] = *x;
+    }
 }

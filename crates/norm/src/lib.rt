@@ -147,6 +147,7 @@ impl Format {
         }
     }
 
+    #[tactic(auto, unfolding(crate::specs::Norm::packed_norm))]
     pub fn pack(self, x: u32) -> u32
         ensures { result ≡ packed_norm self.signed self.w x }
     {
@@ -171,6 +172,7 @@ impl Format {
         }
     }
 
+    #[tactic(auto, unfolding(crate::specs::Norm::unpacked_norm))]
     pub fn unpack(self, c: u32) -> u32
         requires { c < 2 ^ self.w }
         ensures { result ≡ unpacked_norm self.signed self.w c }

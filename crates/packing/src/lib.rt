@@ -47,6 +47,8 @@ fn low16(x: u32) -> u16
     (x % 0x1_0000) as u16
 }
 
+// Inlined, so that the format is a constant in it.
+#[inline(always)]
 fn norm_code(reading: Reading, f: Format, x: u32) -> u32
     ensures { (result ≡ norm_code reading f.signed f.w x) × (result < 2 ^ f.w) }
 {
@@ -97,6 +99,7 @@ pub struct Coded16 {
 }
 
 // A norm code tells no loss.
+#[inline(always)]
 fn coded_norm(reading: Reading, f: Format, x: u32) -> Coded16
     requires { f.w ≡ 16 }
     ensures { result ≡ coded (norm_code reading f.signed 16 x) Loss.Exact }

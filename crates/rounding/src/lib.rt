@@ -138,6 +138,8 @@ fn fract_f32(x: u32) -> u32
 }
 
 // What is left of a half has at most 24 digits behind the point: as an f32 it is exact, and it is rounded once, to the half.
+// Not inlined, as limits' step_lane.
+#[inline(never)]
 fn fract_f16(x: u32) -> u32
     ensures { result ≡ fract f16 x }
 {

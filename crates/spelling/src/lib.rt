@@ -67,7 +67,7 @@ const DIGITS: [u8; 256] = *b"\
     \x10\x10\x10\x10\x10\x10\x10\x10\x10\x10\x10\x10\x10\x10\x10\x10";
 
 // A table of the digit that each byte spells, to be made once before many bytes are looked up in it: each reading of a constant array copies it.
-#[derive(Drop)]
+#[derive(Clone, Copy)]
 pub struct Digits {
     pub of_bytes: [u8; 256],
     pub ghost right: { DigitTable of_bytes },

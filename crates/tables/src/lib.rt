@@ -26,6 +26,8 @@ fn lane(signed: bool, c: u8) -> u32
     entries_of(signed)[c as usize]
 }
 
+// Not inlined, nor `codes`: instructions/run looks whether a float operation is in them.
+#[inline(never)]
 pub fn lanes(signed: bool, c: [u8; 4]) -> [u32; 4]
     ensures { result ≡ four (unpacked_norm signed 8) c }
 {
@@ -92,6 +94,7 @@ fn code(signed: bool, x: u32) -> u8
     }
 }
 
+#[inline(never)]
 pub fn codes(signed: bool, x: [u32; 4]) -> [u8; 4]
     ensures { result ≡ four (packed_norm signed 8) x }
 {

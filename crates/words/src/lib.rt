@@ -115,7 +115,8 @@ fn sixteen(w: &[u64], at: usize) -> [u64; 16]
     l
 }
 
-// The value whose words start at `at`.
+// The value whose words start at `at`. Inlined: a value is 17 words, which are copied once more where it is handed back.
+#[inline(always)]
 pub fn value_at(w: &[u64], at: usize) -> Value
     requires { at ≤ 37 }
     ensures { result ≡ value_at w.now at }

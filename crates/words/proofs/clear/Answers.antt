@@ -1,5 +1,4 @@
 -- The part is filled with as many zeros as the empty value has words. Assumes nothing.
-use Prim.Native.Nat.{◌+◌, ◌-◌}
 use mathlib.Core.Path.{◌≡◌, ap, ◌∙◌}
 use native.Mathlib.Omega.{arith}
 use borrow.Author.Rules.{rules}
@@ -14,4 +13,4 @@ unfolding empty_value
 returns c =
     let a = c.args in
     let f : c.fill.new.self ≡ replicate 17 0 = search rules in
-    ap (put_mid a.at (a.at + 17 - a.at) a.out.now) f ∙ put_part a.out.now a.at _ (replicate 17 0) (omega arith)
+    ap (put_mid a.at _ a.out.now) f ∙ put_part a.out.now a.at _ (replicate 17 0) (omega arith)
